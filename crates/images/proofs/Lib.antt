@@ -1,0 +1,5 @@
+pub mod Formed
+pub mod Packing
+pub mod Promised
+pub mod RoundTrip
+pub mod Searching

@@ -1,0 +1,34 @@
+// Fields of an image. A byte past the image's end counts as 0.
+ghost use mathlib.Core.Path.{_≡_};
+ghost use Prim.Native.Nat.{_<_};
+ghost use lib.ListN.{getD};
+ghost use Rattle.images.specs.Fields.{fieldAt};
+
+fn wide(byte: u8) -> u16
+    ensures { λ r. ⌜ (r ≡ byte) × (r < 256) ⌝ }
+{
+    byte as u16
+}
+
+// The byte at `at`.
+pub fn byte_at(image: &[u8], at: usize) -> u8
+    ensures { λ r. ⌜ r ≡ getD (now (image .entry)) at 0 ⌝ }
+{
+    if at < image.len() { image[at] } else { 0 }
+}
+
+// The 16 bits at `at`, low byte first.
+pub fn field_at(image: &[u8], at: usize) -> u16
+    ensures { λ r. ⌜ r ≡ fieldAt (now (image .entry)) at ⌝ }
+{
+    if at < image.len() {
+        let next = at + 1;
+        if next < image.len() {
+            wide(image[at]) + 256 * wide(image[next])
+        } else {
+            wide(image[at])
+        }
+    } else {
+        0
+    }
+}

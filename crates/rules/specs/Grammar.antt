@@ -1,0 +1,19 @@
+-- "The grammar rule": symbols, productions and tokens.
+use Prim.Native.Nat.{ℕ}
+use mathlib.Core.List.{List}
+
+-- "Each symbol is a terminal or a nonterminal and carries one relation": kind 0 is a terminal, kind 1 a nonterminal
+pub record Symbol : Type 0 where
+  pub kind : ℕ
+  pub relation : ℕ
+  pub number : ℕ
+
+-- "A production has a nonterminal on the left and a row of 0 to 16 symbols on the right"
+pub record Production : Type 0 where
+  pub left : ℕ
+  pub right : List Symbol
+
+-- "A terminal's indentation is the column of its token"
+pub record Token : Type 0 where
+  pub terminal : ℕ
+  pub column : ℕ
