@@ -56,6 +56,7 @@ pub fn symbol_at(image: &[u8], y: u16) -> Symbol
     }
 }
 
+// The header up to its symbol entries.
 fn check_counts(image: &[u8], counts: Counts) -> Checked
     requires { ⌜ Counted (now image) counts ⌝ }
     ensures { λ r. ⌜ r ≡ firstFault (countFields (now (image .entry))) ⌝ }
@@ -91,6 +92,7 @@ fn check_counts(image: &[u8], counts: Counts) -> Checked
     Checked::Good
 }
 
+// The header from the offset of the productions on.
 fn check_offsets(image: &[u8], counts: Counts) -> Checked
     requires { ⌜ Counted (now image) counts ⌝ }
     ensures { λ r. ⌜ r ≡ firstFault (offsetFields (now (image .entry))) ⌝ }
@@ -127,6 +129,7 @@ fn production_keeps(image: &[u8], counts: Counts, p: usize, f: usize, starts: us
     }
 }
 
+// The productions' fields, then their last end, which is a fault of byte 8.
 fn check_productions(image: &[u8], counts: Counts) -> Checked
     requires { ⌜ Counted (now image) counts ⌝ }
     ensures { λ r. ⌜ r ≡ firstFault (productionsFields (now (image .entry))) ⌝ }
@@ -150,7 +153,7 @@ fn check_productions(image: &[u8], counts: Counts) -> Checked
     Checked::Fault(fault)
 }
 
-// Whether field f of the symbol entry at byte `at` keeps its rule.
+// Whether field f of symbol entry y keeps its rule.
 fn symbol_keeps(image: &[u8], counts: Counts, y: usize, f: usize) -> bool
     requires { ⌜ Counted (now image) counts ⌝ }
     requires { ⌜ (y < 65536) × (f < 3) ⌝ }
@@ -170,6 +173,7 @@ fn symbol_keeps(image: &[u8], counts: Counts, y: usize, f: usize) -> bool
     }
 }
 
+// The symbol entries' fields.
 fn check_symbols(image: &[u8], counts: Counts) -> Checked
     requires { ⌜ Counted (now image) counts ⌝ }
     ensures { λ r. ⌜ r ≡ firstFault (symbolsFields (now (image .entry))) ⌝ }
@@ -189,7 +193,7 @@ fn check_symbols(image: &[u8], counts: Counts) -> Checked
     Checked::Fault(fault)
 }
 
-// The records, once the header is good: first the productions, then the symbols.
+// The records' fields: first the productions', then the symbols'.
 fn check_records(image: &[u8], counts: Counts) -> Checked
     requires { ⌜ Counted (now image) counts ⌝ }
     ensures { λ r. ⌜ r ≡ firstFault (productionsFields (now (image .entry)) ++ symbolsFields (now (image .entry))) ⌝ }
@@ -200,6 +204,7 @@ fn check_records(image: &[u8], counts: Counts) -> Checked
     }
 }
 
+// The header's fields.
 fn check_header(image: &[u8], counts: Counts) -> Checked
     requires { ⌜ Counted (now image) counts ⌝ }
     ensures { λ r. ⌜ r ≡ firstFault (countFields (now (image .entry)) ++ offsetFields (now (image .entry))) ⌝ }

@@ -1,14 +1,12 @@
-// The three images of document 01: their checks, their readers by number, and the two packers.
+// The three images of document 01: their checks, and their readers by number.
 // Nothing here allocates or copies an image, and no public function has a `requires`.
 mod fields;
 pub mod grammar;
-pub mod pack;
 pub mod tokens;
 pub mod tree;
 
 ghost use mathlib.Core.Path.{_≡_};
 ghost use Rattle.images.specs.Answers.{checkedNumber, checkedPlace};
-ghost use Rattle.images.specs.Answers.{packedNumber, packedPlace, packedLength};
 
 // What the check of an image answers.
 pub enum Checked {
@@ -17,18 +15,6 @@ pub enum Checked {
     // The byte of the first field that breaks its rule, or the image's length where its header does
     // not fit.
     Fault(usize),
-}
-
-// What a packer answers.
-pub enum Packed {
-    // The image stands in the first bytes of the output, as many as are said.
-    Written(usize),
-    // Too many entries, an empty tree list, or two lists of unequal length.
-    Entries,
-    // A column above the greatest: the index of the first such.
-    Column(usize),
-    // The output is too short: the bytes needed.
-    Room(usize),
 }
 
 // The header of a grammar image.
@@ -78,44 +64,6 @@ impl Checked {
         match self {
             Checked::Good => 0,
             Checked::Fault(byte) => byte,
-        }
-    }
-}
-
-impl Packed {
-    // The answer's number.
-    pub fn number(self) -> u8
-        ensures { λ r. ⌜ r ≡ packedNumber self ⌝ }
-    {
-        match self {
-            Packed::Written(_) => 0,
-            Packed::Entries => 13,
-            Packed::Column(_) => 14,
-            Packed::Room(_) => 4,
-        }
-    }
-
-    // The answer's place.
-    pub fn place(self) -> usize
-        ensures { λ r. ⌜ r ≡ packedPlace self ⌝ }
-    {
-        match self {
-            Packed::Written(_) => 0,
-            Packed::Entries => 0,
-            Packed::Column(k) => k,
-            Packed::Room(needed) => needed,
-        }
-    }
-
-    // The length of the image that was written.
-    pub fn length(self) -> usize
-        ensures { λ r. ⌜ r ≡ packedLength self ⌝ }
-    {
-        match self {
-            Packed::Written(length) => length,
-            Packed::Entries => 0,
-            Packed::Column(_) => 0,
-            Packed::Room(_) => 0,
         }
     }
 }

@@ -29,6 +29,7 @@ pub fn token_at(image: &[u8], k: u16) -> Token
     }
 }
 
+// The header's fields.
 fn check_header(image: &[u8]) -> Checked
     ensures { λ r. ⌜ r ≡ firstFault (headerFields (now (image .entry))) ⌝ }
 {
@@ -53,7 +54,7 @@ fn check_header(image: &[u8]) -> Checked
     Checked::Good
 }
 
-// Whether field f of the token at byte `at` keeps its rule.
+// Whether field f of token k keeps its rule.
 fn keeps(image: &[u8], terminals: u16, k: usize, f: usize) -> bool
     requires { ⌜ k < 65536 ⌝ }
     requires { ⌜ f < 2 ⌝ }
@@ -66,6 +67,7 @@ fn keeps(image: &[u8], terminals: u16, k: usize, f: usize) -> bool
     }
 }
 
+// The tokens' fields.
 fn check_records(image: &[u8], terminals: u16) -> Checked
     ensures { λ r. ⌜ r ≡ firstFault (recordsFields terminals (now (image .entry))) ⌝ }
 {

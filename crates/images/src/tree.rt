@@ -20,6 +20,7 @@ pub fn node_at(image: &[u8], n: u16) -> u16
     field_at(image, 6 + 2 * (n as usize))
 }
 
+// The header's fields.
 fn check_header(image: &[u8]) -> Checked
     ensures { λ r. ⌜ r ≡ firstFault (headerFields (now (image .entry))) ⌝ }
 {
@@ -47,6 +48,7 @@ fn check_header(image: &[u8]) -> Checked
     Checked::Good
 }
 
+// The nodes, which are a field each.
 fn check_records(image: &[u8], productions: u16) -> Checked
     ensures { λ r. ⌜ r ≡ firstFault (recordsFields productions (now (image .entry))) ⌝ }
 {

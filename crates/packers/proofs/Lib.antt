@@ -1,0 +1,4 @@
+pub mod Formed
+pub mod Packing
+pub mod Refused
+pub mod RoundTrip

@@ -1,0 +1,80 @@
+-- Before turn k every column below k has passed, so what is left to search are the columns from k on.
+use mathlib.Core.Path.{_≡_, refl, sym, ap, _∙_}
+use mathlib.Core.List.{List, [], _∷_}
+use Prim.Native.Nat.{ℕ, _-_, _≤_}
+use native.Mathlib.Nat.{sub-zero}
+use native.Mathlib.Omega.{arith}
+use denote.Ref.{now}
+use lib.Dec.{leb}
+use lib.ListN.{length, getD}
+use borrow.Author.Tests.{le-leb, lt-leb}
+use Rattle.rules.specs.Limits.{maxColumn}
+use Rattle.images.specs.Fields.{Field, field, eachFrom, firstFault}
+use Rattle.packers.specs.Packing.{columnFields}
+use Rattle.images.proofs.Searching.{pass, fail, done, each-first, each-none}
+use Rattle.packers.proofs.tokens.check_columns.Statement.{statement}
+use Rattle.packers.proofs.tokens.check_columns.Tie as tie
+
+abbrev fields : List ℕ → ℕ → List Field
+fields columns k = field k (leb (getD columns k 0) maxColumn) ∷ []
+
+abbrev Inv-loop : tie.InvT-loop
+Inv-loop columns k₀ k-end k =
+    (k ≤ length columns) × (firstFault (columnFields columns) ≡ firstFault (eachFrom k (length columns - k) (fields columns)))
+
+abbrev μ-loop : tie.MeasureT-loop
+μ-loop columns k₀ k-end k = length columns - k
+
+loop-holds : tie.Need-loop-holds Inv-loop μ-loop
+unfolding columnFields
+loop-holds c = (omega arith, rw sub-zero)
+
+mul-if1 : tie.Need-mul-if1 Inv-loop μ-loop
+mul-if1 c = omega arith
+
+shared-slice-read-if1 : tie.Need-shared-slice-read-if1 Inv-loop μ-loop
+shared-slice-read-if1 c = omega arith
+
+returns : tie.Need-returns Inv-loop μ-loop
+returns c =
+    let at-loop = c .before .before .before in
+    let columns = now (at-loop .before .args .columns) in
+    fail _ _ (lt-leb _ maxColumn (c .if1 .taken)) refl
+    ∙ sym (at-loop .loop .inv .1 ∙ ap firstFault (each-first (fields columns) (at-loop .loop .k) (length columns) (omega arith)))
+
+add-k : tie.Need-add-k Inv-loop μ-loop
+add-k c = omega arith
+
+loop-less : tie.Need-loop-less Inv-loop μ-loop
+loop-less c = omega arith
+
+loop-again : tie.Need-loop-again Inv-loop μ-loop
+loop-again c =
+    let at-loop = c .before .before .before in
+    let columns = now (at-loop .before .args .columns) in (
+      omega arith,
+      at-loop .loop .inv .1
+          ∙ ap firstFault (each-first (fields columns) (at-loop .loop .k) (length columns) (omega arith))
+          ∙ sym (pass _ _ (le-leb _ maxColumn (c .if1 .left)) refl),
+    )
+
+returns-2 : tie.Need-returns-2 Inv-loop μ-loop
+returns-2 c =
+    let at-loop = c .before in
+    let columns = now (at-loop .before .args .columns) in
+    done ∙ sym (at-loop .loop .inv .1 ∙ ap firstFault (each-none (fields columns) (at-loop .loop .k) (length columns) (omega arith)))
+
+pub check-columns-spec : {M : Type 1} → statement M
+check-columns-spec =
+    tie.close
+    (tie.spec
+    Inv-loop
+    μ-loop
+    loop-holds
+    mul-if1
+    shared-slice-read-if1
+    returns
+    add-k
+    loop-less
+    loop-again
+    returns-2)

@@ -1,0 +1,38 @@
+-- `packers::tree::tree_answer` meets its contract: each test of the code decides one of the answer's tests.
+use borrow.Author.Needs.{needs}
+use Rattle.packers.proofs.Packing.{tree-few, tree-many, tree-room, tree-written}
+use Rattle.packers.proofs.tree.tree_answer.Statement.{statement}
+use Rattle.packers.proofs.tree.tree_answer.Tie as tie
+
+returns : tie.Need-returns
+returns c = tree-few _ _ (c .if1 .taken)
+
+cast-if2 : tie.Need-cast-if2
+cast-if2 c = search needs
+
+returns-2 : tie.Need-returns-2
+returns-2 c = tree-many _ _ (c .before .if1 .left) (c .if2 .taken)
+
+mul-needed : tie.Need-mul-needed
+mul-needed c = search needs
+
+add-needed : tie.Need-add-needed
+add-needed c = search needs
+
+returns-3 : tie.Need-returns-3
+returns-3 c = tree-room _ _ (c .before .before .if1 .left) (c .before .if2 .left) (c .if3 .taken)
+
+returns-4 : tie.Need-returns-4
+returns-4 c = tree-written _ _ (c .before .before .if1 .left) (c .before .if2 .left) (c .if3 .left)
+
+pub tree-answer-spec : {M : Type 1} → statement M
+tree-answer-spec =
+    tie.close
+    (tie.spec
+    returns
+    cast-if2
+    returns-2
+    mul-needed
+    add-needed
+    returns-3
+    returns-4)

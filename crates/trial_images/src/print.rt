@@ -1,0 +1,42 @@
+// Lines of output.
+use io::print_decimal;
+use io::write_all;
+use libc::STDOUT_FILENO;
+
+pub fn text(bytes: &[u8]) {
+    write_all(STDOUT_FILENO, bytes);
+}
+
+// A label at the start of a line.
+pub fn start(label: &[u8]) {
+    text(label);
+    text(b":");
+}
+
+// A number after a space.
+pub fn number(n: usize) {
+    text(b" ");
+    print_decimal(STDOUT_FILENO, n as u64);
+}
+
+// A field of an image.
+pub fn field(value: u16) {
+    number(value as usize);
+}
+
+fn byte(value: u8) {
+    number(value as usize);
+}
+
+// The first bytes of an image.
+pub fn bytes(image: &[u8], length: usize) {
+    for i in 0..length {
+        if i < image.len() {
+            byte(image[i]);
+        }
+    }
+}
+
+pub fn end() {
+    text(b"\n");
+}
