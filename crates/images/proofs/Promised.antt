@@ -1,13 +1,11 @@
 -- What is promised of the checks and the readers: good exactly on well-formed images, else the first fault; and one outcome for each input.
-use native.Mathlib.Omega.{arith}
 use mathlib.Core.Bool.{Bool, true, false, cond}
 use mathlib.Core.Path.{_≡_, refl, sym, ap, _∙_}
-use mathlib.Core.List.{List, [], _∷_, _++_}
+use mathlib.Core.List.{List, [], _∷_}
 use Prim.Native.Nat.{ℕ}
 use Rattle.images.specs.Fields.{Field, firstFault, WellFormed, FirstAt}
 use Rattle.images.specs.GrammarImage.{Counted, ProductionIs, SymbolIs}
 use Rattle.images.specs.TokenImage.{TokenIs}
-use Rattle.images.specs.declared.Checked.{Checked}
 use Rattle.images.specs.declared.Checked.the-variants.{Good, Fault}
 use Rattle.images.specs.declared.Counts.{Counts}
 use Rattle.images.specs.declared.Production.{Production}

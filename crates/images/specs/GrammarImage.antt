@@ -1,7 +1,7 @@
 -- "Grammar image. Bytes 0: terminals T, 1 to 1,024. 2: nonterminals N, 1 to 1,024. 4: start nonterminal, below N. 6: productions P, 1 to 1,024.
 -- 8: symbol entries Y, 0 to 4,096. 10: offset of the productions, 16. 12: offset of the symbols, 16 + 6P. 14: total length, 16 + 6P + 4Y, which is also the image's real length."
 use mathlib.Core.Path.{_≡_}
-use mathlib.Core.Bool.{Bool, true, false, _&&_, cond}
+use mathlib.Core.Bool.{_&&_, cond}
 use mathlib.Core.List.{List, [], _∷_, _++_}
 use Prim.Native.Nat.{ℕ, zero, suc, _+_, _*_}
 use lib.Dec.{leb, ltb, eqb}

@@ -55,7 +55,7 @@ fn check_header(image: &[u8]) -> Checked
 }
 
 // Whether field f of token k keeps its rule.
-fn keeps(image: &[u8], terminals: u16, k: usize, f: usize) -> bool
+fn token_keeps(image: &[u8], terminals: u16, k: usize, f: usize) -> bool
     requires { ⌜ k < 65536 ⌝ }
     requires { ⌜ f < 2 ⌝ }
     ensures { λ r. ⌜ r ≡ getD (recordFields terminals (now (image .entry)) k) f nowhere .keeps ⌝ }
@@ -75,7 +75,7 @@ fn check_records(image: &[u8], terminals: u16) -> Checked
     let fault = 'search: loop {
         for k in 0..count {
             for f in 0..2 {
-                if !keeps(image, terminals, k, f) {
+                if !token_keeps(image, terminals, k, f) {
                     break 'search 6 + 4 * k + 2 * f;
                 }
             }

@@ -1,4 +1,3 @@
-pub mod Formed
 pub mod Packing
 pub mod Refused
 pub mod RoundTrip

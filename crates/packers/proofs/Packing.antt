@@ -17,7 +17,7 @@ use Rattle.images.specs.declared.Checked.{Checked}
 use Rattle.images.specs.declared.Checked.the-variants.{Good, Fault}
 use Rattle.packers.specs.declared.Packed.{Packed}
 use Rattle.packers.specs.declared.Packed.the-variants.{Written, Entries, Column, Room}
-use Rattle.packers.proofs.Formed.{both-true}
+use Rattle.images.proofs.Formed.{both-true}
 
 -- the fields of a tree image, and of a token image
 abbrev pub treeList : List ℕ → List ℕ

@@ -18,7 +18,7 @@ use Rattle.images.specs.TokenImage as token
 use Rattle.images.specs.declared.Checked.the-variants.{Good}
 use Rattle.packers.specs.declared.Packed.{Packed}
 use Rattle.packers.specs.declared.Packed.the-variants.{Written}
-use Rattle.packers.proofs.Formed.{formed-append, formed-parts, formed-each, each-formed}
+use Rattle.images.proofs.Formed.{formed-append, formed-parts, formed-each, each-formed}
 use Rattle.images.proofs.Promised.{good-well-formed, well-formed-good}
 use Rattle.packers.proofs.Packing.{treeList, tokenList, Headed, headed-formed, formed-headed, TreeFits, TokensFit, past-header, length-inTurn, terminal-field, column-field, length-list, getD-list, map-list, list-same, list-in-turn, list-getD, length-bytes, fields-back, image-back, tree-written, tokens-written, tree-fits, tokens-fit}
 

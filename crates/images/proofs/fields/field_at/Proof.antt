@@ -1,7 +1,7 @@
 -- `images::fields::field_at` meets its contract: both bytes are read where both are there, and the list's default stands for one that is not.
 use borrow.Author.Needs.{needs}
 use native.Mathlib.Omega.{arith}
-use Prim.Native.Nat.{ℕ, _+_, _≤_}
+use Prim.Native.Nat.{_+_, _≤_}
 use lib.ListN.{length, List·getD-eq-default}
 use denote.Ref.{now}
 use Rattle.images.specs.Fields.{fieldAt}

@@ -4,16 +4,18 @@ use borrow.Author.Needs.{needs}
 use borrow.Author.Tests.{leb-true, not-false}
 use native.Mathlib.Omega.{arith}
 use native.Mathlib.Numerals.{add-one}
-use mathlib.Core.Bool.{Bool, true, false, not, _&&_}
+use mathlib.Core.Bool.{Bool, true, false, not}
 use mathlib.Core.Path.{_≡_, refl, sym, ap, _∙_}
-use mathlib.Core.List.{List, [], _∷_}
+use mathlib.Core.List.{List}
 use Prim.Native.Nat.{ℕ, zero, suc, _+_, _*_, _-_, _≤_, _<_}
-use lib.Dec.{leb, eqb}
+use lib.Dec.{leb}
 use lib.ListN.{length, getD}
 use denote.Ref.{now}
-use Rattle.images.specs.Fields.{field, each, eachFrom, firstFault, nowhere}
+use Rattle.rules.specs.Limits.{maxRow}
+use Rattle.images.specs.Fields.{each, eachFrom, firstFault, nowhere}
 use Rattle.images.specs.declared.Checked.the-variants.{Fault}
 use Rattle.images.specs.GrammarImage.{entryCount, productionCount, countOf, startsAt, productionFields, productionsFields}
+use Rattle.images.proofs.Formed.{both-true}
 use Rattle.images.proofs.Searching.{tests, pass, fail, done, then-good, then-fault, left, turn, turned, passed, failed, finished}
 use Rattle.images.proofs.grammar.check_productions.Statement.{statement}
 use Rattle.images.proofs.grammar.check_productions.Tie as tie
@@ -34,20 +36,13 @@ starts-next : (image : List ℕ) (p : ℕ) → startsAt image (p + 1) ≡ starts
 unfolding startsAt
 starts-next image p = ap (startsAt image) (add-one p)
 
-second-true : (a b : Bool) → (a && b) ≡ true → b ≡ true
-second-true true b e = e
-second-true false b e = absurd (no-true e)
-  where
-    no-true : false ≡ true → ⊥
-    no-true q = let z : _≡_ {A = ℕ} 0 1 = cc in omega arith
-
 -- a count that keeps its rule does not run past the last entry
 ends-within : (image : List ℕ) (p f : ℕ) (b : Bool) → f ≡ 2 → b ≡ getD (productionFields image p) f nowhere .keeps → not b ≡ false
     → startsAt image p + countOf image p ≤ entryCount image
 unfolding productionFields
 ends-within image p f b e t q =
     let keeps : getD (productionFields image p) 2 nowhere .keeps ≡ true = ap (λ (i : ℕ). getD (productionFields image p) i nowhere .keeps) (sym e) ∙ sym t ∙ not-false b q in
-    leb-true _ _ (second-true (leb (countOf image p) 16) (leb (startsAt image p + countOf image p) (entryCount image)) keeps)
+    leb-true _ _ (both-true (leb (countOf image p) maxRow) (leb (startsAt image p + countOf image p) (entryCount image)) keeps .1)
 
 abbrev Inv-loop2 : tie.InvT-loop2
 Inv-loop2 image counts productions starts p f₀ f =

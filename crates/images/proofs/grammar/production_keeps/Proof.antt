@@ -6,6 +6,7 @@ use mathlib.Core.Path.{_≡_}
 use Prim.Native.Nat.{_+_, _*_}
 use lib.Dec.{leb}
 use denote.Ref.{now}
+use Rattle.rules.specs.Limits.{maxRow}
 use Rattle.images.specs.GrammarImage.{countOf, productionFields}
 use Rattle.images.proofs.Searching.{tests, last-of-three}
 use Rattle.images.proofs.grammar.production_keeps.Statement.{statement}
@@ -66,7 +67,7 @@ returns-3 c =
     let which = last-of-three (a .f) (start .pre .1 .0 .1) (rest .0 .1) (rest .1) in
     let at : 16 + 6 * a .p + 2 * a .f ≡ 16 + 6 * a .p + 4 = omega arith in
     let value : c .before .before .before .field-at .result ≡ countOf (now (a .image)) (a .p) = cc in
-    let small : leb (countOf (now (a .image)) (a .p)) 16 ≡ true = omega tests in
+    let small : leb (countOf (now (a .image)) (a .p)) maxRow ≡ true = omega tests in
     rw (which, small) (cc)
 
 returns-4 : tie.Need-returns-4
@@ -78,7 +79,7 @@ returns-4 c =
     let which = last-of-three (a .f) (start .pre .1 .0 .1) (rest .0 .1) (rest .1) in
     let at : 16 + 6 * a .p + 2 * a .f ≡ 16 + 6 * a .p + 4 = omega arith in
     let value : c .before .before .field-at .result ≡ countOf (now (a .image)) (a .p) = cc in
-    let small : leb (countOf (now (a .image)) (a .p)) 16 ≡ false = omega tests in
+    let small : leb (countOf (now (a .image)) (a .p)) maxRow ≡ false = omega tests in
     rw (which, value, small)
 
 pub production-keeps-spec : {M : Type 1} → statement M

@@ -69,8 +69,8 @@ loop2-holds c =
     let image = now (start .args .image) in
     (omega arith, turn (recordFields T image) (c .before .before .before .field-at .result) 2 (two T image) (c .before .loop .k) (c .loop-test .taken) (c .before .loop .inv .1))
 
-keeps-requires : tie.Need-keeps-requires Inv-loop2 μ-loop2 Inv-loop μ-loop Inv-search μ-search
-keeps-requires c κs = search needs
+token-keeps-requires : tie.Need-token-keeps-requires Inv-loop2 μ-loop2 Inv-loop μ-loop Inv-search μ-search
+token-keeps-requires c κs = search needs
 
 mul-fault : tie.Need-mul-fault Inv-loop2 μ-loop2 Inv-loop μ-loop Inv-search μ-search
 mul-fault c = omega arith
@@ -97,7 +97,7 @@ loop2-again c =
     let start = outer .before .before .before .before in
     let T = start .args .terminals in
     let image = now (start .args .image) in
-    (omega arith, passed (recordFields T image) (outer .before .before .field-at .result) 2 (two T image) (outer .loop .k) (inner .loop2 .f) _ (c .before .before .loop2-test .taken) (c .before .keeps .ensures) (c .if1 .left) (inner .loop2 .inv .1))
+    (omega arith, passed (recordFields T image) (outer .before .before .field-at .result) 2 (two T image) (outer .loop .k) (inner .loop2 .f) _ (c .before .before .loop2-test .taken) (c .before .token-keeps .ensures) (c .if1 .left) (inner .loop2 .inv .1))
 
 add-k : tie.Need-add-k Inv-loop2 μ-loop2 Inv-loop μ-loop Inv-search μ-search
 add-k c = omega arith
@@ -129,7 +129,7 @@ returns-2 c =
     let T = start .args .terminals in
     let image = now (start .args .image) in
     ap Fault (byte-of T image _ _ (c .before .before .loop2-test .taken))
-    ∙ sym (failed (recordFields T image) (outer .before .before .field-at .result) 2 (two T image) (outer .loop .k) (inner .loop2 .f) _ (c .before .before .loop2-test .taken) (c .before .keeps .ensures) (c .if1 .taken) (inner .loop2 .inv .1))
+    ∙ sym (failed (recordFields T image) (outer .before .before .field-at .result) 2 (two T image) (outer .loop .k) (inner .loop2 .f) _ (c .before .before .loop2-test .taken) (c .before .token-keeps .ensures) (c .if1 .taken) (inner .loop2 .inv .1))
 
 pub check-records-spec : {M : Type 1} → statement M
 check-records-spec =
@@ -146,7 +146,7 @@ check-records-spec =
     search-holds
     loop-holds
     loop2-holds
-    keeps-requires
+    token-keeps-requires
     mul-fault
     add-fault
     mul-fault-2

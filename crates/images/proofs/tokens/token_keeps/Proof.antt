@@ -1,11 +1,11 @@
--- `images::tokens::keeps` meets its contract: each arm tests the field that it stands for.
+-- `images::tokens::token_keeps` meets its contract: each arm tests the field that it stands for.
 use borrow.Author.Needs.{needs}
 use native.Mathlib.Omega.{arith}
 use mathlib.Core.Path.{_≡_}
 use Prim.Native.Nat.{_+_, _*_}
 use Rattle.images.specs.TokenImage.{recordFields}
-use Rattle.images.proofs.tokens.keeps.Statement.{statement}
-use Rattle.images.proofs.tokens.keeps.Tie as tie
+use Rattle.images.proofs.tokens.token_keeps.Statement.{statement}
+use Rattle.images.proofs.tokens.token_keeps.Tie as tie
 
 mul-field-at : tie.Need-mul-field-at
 mul-field-at c = search needs
@@ -38,8 +38,8 @@ returns-2 c =
     let at : 6 + 4 * a .k + 2 * a .f ≡ 6 + 4 * a .k + 2 = omega arith in
     rw which (cc)
 
-pub keeps-spec : {M : Type 1} → statement M
-keeps-spec =
+pub token-keeps-spec : {M : Type 1} → statement M
+token-keeps-spec =
     tie.close
     (tie.spec
     mul-field-at
