@@ -44,8 +44,8 @@ pub fn production_at(image: &[u8], p: u16) -> Production
     }
 }
 
-// The symbol of entry y.
-pub fn symbol_at(image: &[u8], y: u16) -> Symbol
+// The symbol of entry y. First entry and count of any production add up within 32 bits.
+pub fn symbol_at(image: &[u8], y: u32) -> Symbol
     ensures { λ r. ⌜ SymbolIs (now (image .entry)) y r ⌝ }
 {
     let at = 16 + 6 * (field_at(image, 6) as usize) + 4 * (y as usize);

@@ -98,21 +98,10 @@ module _ (terminals columns : List ℕ) (k : ℕ) (same : length terminals ≡ l
       e k = omega arith
 
 -- lists of what records hold
-pub length-list {ℓ} : {A : Type ℓ} (k n : ℕ) (f : ℕ → A) → length (listFrom k n f) ≡ n
-unfolding listFrom
-length-list k zero f = refl
-length-list k (suc n) f = ap suc (length-list (suc k) n f)
-
 pub map-list {ℓ ℓ′} : {A : Type ℓ} {B : Type ℓ′} (g : A → B) (k n : ℕ) (f : ℕ → A) → map g (listFrom k n f) ≡ listFrom k n (λ i. g (f i))
 unfolding listFrom
 map-list g k zero f = refl
 map-list {B = B} g k (suc n) f = ap (λ (l : List B). g (f k) ∷ l) (map-list g (suc k) n f)
-
-pub getD-list : (k n i : ℕ) (f : ℕ → ℕ) → i < n → getD (listFrom k n f) i 0 ≡ f (k + i)
-unfolding listFrom
-getD-list k zero i f h = absurd (omega arith)
-getD-list k (suc n) zero f h = rw add-zero
-getD-list k (suc n) (suc i) f h = rw (add-suc, ← suc-add) (getD-list (suc k) n i f (omega arith))
 
 -- f from j on is g from k on
 pub same-list : (f g : ℕ → ℕ) (j k n : ℕ) → ((i : ℕ) → f (i + j) ≡ g (i + k)) → listFrom j n f ≡ listFrom k n g

@@ -20,7 +20,8 @@ use Rattle.packers.specs.declared.Packed.{Packed}
 use Rattle.packers.specs.declared.Packed.the-variants.{Written}
 use Rattle.images.proofs.Formed.{formed-append, formed-parts, formed-each, each-formed}
 use Rattle.images.proofs.Promised.{good-well-formed, well-formed-good}
-use Rattle.packers.proofs.Packing.{treeList, tokenList, Headed, headed-formed, formed-headed, TreeFits, TokensFit, past-header, length-inTurn, terminal-field, column-field, length-list, getD-list, map-list, list-same, list-in-turn, list-getD, length-bytes, fields-back, image-back, tree-written, tokens-written, tree-fits, tokens-fit}
+use Rattle.images.proofs.Lists.{length-list, getD-list}
+use Rattle.packers.proofs.Packing.{treeList, tokenList, Headed, headed-formed, formed-headed, TreeFits, TokensFit, past-header, length-inTurn, terminal-field, column-field, map-list, list-same, list-in-turn, list-getD, length-bytes, fields-back, image-back, tree-written, tokens-written, tree-fits, tokens-fit}
 
 -- of a token, its entry in the one list and in the other
 abbrev pub terminalOf : Token → ℕ
@@ -210,7 +211,7 @@ module _ (T : ℕ) (image : List ℕ) (bytes : Bytes image) (formed : WellFormed
       rw columns-are
       (well-formed-good _ (formed-each _ (length (list (tokenCount image) (columnAt image))) (λ k l.
       let count = length-list 0 (tokenCount image) (columnAt image) in
-      (rw (getD-list 0 (tokenCount image) k (columnAt image) (omega arith), zero-add) (each-formed (token.recordFields T image) (tokenCount image) k records (omega arith) .1 .0), tt))))
+      (rw (getD-list 0 (tokenCount image) k (columnAt image) 0 (omega arith), zero-add) (each-formed (token.recordFields T image) (tokenCount image) k records (omega arith) .1 .0), tt))))
 
   -- the tokens of a well-formed token image are packed as that image
   pub tokens-are-packed : tokenImage (map terminalOf (tokensOf image)) (map columnOf (tokensOf image)) ≡ image

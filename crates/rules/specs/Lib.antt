@@ -1,4 +1,6 @@
 -- The grammar rule of document 01, with no word of bytes.
+pub mod Derivation
 pub mod Grammar
 pub mod Limits
 pub mod Tree
+pub mod Walk

@@ -123,7 +123,7 @@ fn production(label: &[u8], image: &[u8], p: u16) {
     end();
 }
 
-fn symbol(label: &[u8], image: &[u8], y: u16) {
+fn symbol(label: &[u8], image: &[u8], y: u32) {
     let found = symbol_at(image, y);
     start(label);
     field(found.kind as u16);

@@ -1,0 +1,181 @@
+use borrow.Author.Needs.{needs}
+use mathlib.Core.Path.{_≡_, refl, sym, ap, _∙_}
+use mathlib.Core.Logic.{⊎-elim}
+use Prim.Native.Nat.{ℕ, _<_, _≤_, _+_, _*_, _-_}
+use native.Mathlib.Omega.{arith}
+use Rattle.rules.specs.Walk.{nodeDue, symbolDue, rowDue}
+use Rattle.images.specs.Fields.{listFrom}
+use Rattle.images.specs.GrammarImage.{symbolAt, productionAt}
+use Rattle.images.specs.TokenImage.{tokensOf}
+use Rattle.images.specs.TreeImage.{nodesOf}
+use Rattle.derive.specs.Answers.{walkedAs}
+use denote.Ref.{now}
+use Rattle.derive.proofs.Walking.{no-node, other-left, too-deep, row-walked, row-refused, row-goes-on, row-used, row-begins, terminal-due, nonterminal-due}
+use borrow.Fn.Kinds.{In}
+use borrow.Fn.PlainCycle.{Measures, is, falls, and}
+use Rattle.derive.proofs.walk.node.Reads as node
+use Rattle.derive.proofs.walk.node.Kinds as node-kinds
+use Rattle.derive.proofs.walk.+node+row.Lts-node as node-lts
+use Rattle.derive.proofs.walk.row.Reads as row
+use Rattle.derive.proofs.walk.row.Kinds as row-kinds
+use Rattle.derive.proofs.walk.+node+row.Lts-row as row-lts
+use Rattle.derive.proofs.walk.token.Reads as token-reads
+use Rattle.images.proofs.grammar.production_at.Reads as production-at-reads
+use Rattle.images.proofs.grammar.symbol_at.Reads as symbol-at-reads
+use Rattle.images.proofs.tree.node_at.Reads as node-at-reads
+use Rattle.images.proofs.tree.node_count.Reads as node-count-reads
+use Rattle.derive.proofs.walk.+node+row.{statement}
+use Rattle.derive.proofs.walk.+node+row.Tie.{close}
+
+abbrev μ-node : Measures 3 node-kinds.ps ℕ
+μ-node κs a = 2 * a .1 .1 .1 .0
+
+abbrev μ-row : Measures 3 row-kinds.ps ℕ
+μ-row κs a = 2 * a .1 .1 .1 .0 + 1
+
+abbrev node-at : ℕ → In 3 node-kinds.ps
+node-at t = and 3 node-kinds.ps (is 3 node-kinds.ps μ-node t) node.Pre
+
+abbrev node-below : ℕ → In 3 node-kinds.ps
+node-below t = and 3 node-kinds.ps (falls 3 node-kinds.ps _<_ μ-node t) node.Pre
+
+abbrev row-at : ℕ → In 3 row-kinds.ps
+row-at t = and 3 row-kinds.ps (is 3 row-kinds.ps μ-row t) row.Pre
+
+abbrev row-below : ℕ → In 3 row-kinds.ps
+row-below t = and 3 row-kinds.ps (falls 3 row-kinds.ps _<_ μ-row t) row.Pre
+
+abbrev row-Inv-loop : row-lts.InvT-loop
+row-Inv-loop grammar tokens tree levels first count n k start end nodes₀ toks₀ y₀ nodes toks y =
+    (end ≡ first + count) × (y ≤ end)
+    × (rowDue (tokensOf tokens) (nodeDue (productionAt grammar) (nodesOf tree) (tokensOf tokens) levels) (listFrom y (end - y) (symbolAt grammar)) nodes toks
+    ≡ rowDue (tokensOf tokens) (nodeDue (productionAt grammar) (nodesOf tree) (tokensOf tokens) levels) (listFrom first count (symbolAt grammar)) n k)
+
+abbrev row-μ-loop : row-lts.MeasureT-loop
+row-μ-loop grammar tokens tree levels first count n k start end nodes₀ toks₀ y₀ nodes toks y = end - y
+
+module _ (t : ℕ) where
+  abbrev node-claims : node-lts.Claims
+  node-claims = (node-count-reads.Asked, node-count-reads.Learnt, node-at-reads.Asked, node-at-reads.Learnt, production-at-reads.Asked, production-at-reads.Learnt, row-below t, row.Post)
+
+  abbrev row-claims : row-lts.Claims
+  row-claims = (symbol-at-reads.Asked, symbol-at-reads.Learnt, token-reads.Asked, token-reads.Learnt, node-below t, node.Post)
+
+  node-node-count-requires : node-lts.Need-node-count-requires node-claims (node-at t) node.Post
+  node-node-count-requires c κs = search needs
+
+  node-returns : node-lts.Need-returns node-claims (node-at t) node.Post
+  node-returns c = no-node _ _ _ _ _ _ _ (omega arith) (omega arith)
+
+  node-node-at-requires : node-lts.Need-node-at-requires node-claims (node-at t) node.Post
+  node-node-at-requires c κs = search needs
+
+  node-production-at-requires : node-lts.Need-production-at-requires node-claims (node-at t) node.Post
+  node-production-at-requires c κs = search needs
+
+  node-returns-2 : node-lts.Need-returns-2 node-claims (node-at t) node.Post
+  node-returns-2 c = other-left _ _ _ _ _ _ (c .before .before .before .node-at .ensures) (c .before .before .production-at .ensures) _ (omega arith) (c .if2 .taken)
+
+  node-returns-3 : node-lts.Need-returns-3 node-claims (node-at t) node.Post
+  node-returns-3 c = too-deep _ _ _ _ _ _ (c .before .before .before .before .node-at .ensures) (c .before .before .before .production-at .ensures) _ (omega arith) (omega arith) (omega arith)
+
+  node-sub-row : node-lts.Need-sub-row node-claims (node-at t) node.Post
+  node-sub-row c = search needs
+
+  node-add-row : node-lts.Need-add-row node-claims (node-at t) node.Post
+  node-add-row c = search needs
+
+  node-row-requires : node-lts.Need-row-requires node-claims (node-at t) node.Post
+  node-row-requires c κs = (omega arith, tt)
+
+  node-returns-4 : node-lts.Need-returns-4 node-claims (node-at t) node.Post
+  node-returns-4 c =
+      let at = c .before .before .before .before in
+      row-walked _ _ _ _ _ _ (at .before .node-at .ensures) (at .production-at .ensures) _ (c .before .if3 .left) (omega arith) (omega arith) (c .row .ensures)
+
+  row-add-end : row-lts.Need-add-end row-claims (row-at t) row.Post row-Inv-loop row-μ-loop
+  row-add-end c = search needs
+
+  row-loop-holds : row-lts.Need-loop-holds row-claims (row-at t) row.Post row-Inv-loop row-μ-loop
+  row-loop-holds c = (refl, omega arith, row-begins _ _ _ _ _ _ _)
+
+  row-symbol-at-requires : row-lts.Need-symbol-at-requires row-claims (row-at t) row.Post row-Inv-loop row-μ-loop
+  row-symbol-at-requires c κs = search needs
+
+  row-token-requires : row-lts.Need-token-requires row-claims (row-at t) row.Post row-Inv-loop row-μ-loop
+  row-token-requires c κs = search needs
+
+  row-node-requires : row-lts.Need-node-requires row-claims (row-at t) row.Post row-Inv-loop row-μ-loop
+  row-node-requires c κs = (omega arith, tt)
+
+  -- what the walk of the symbol at y gives, by either branch
+  symbol-walked : (c : row-lts.Joined1 row-claims (row-at t) row.Post row-Inv-loop row-μ-loop) →
+      let turn = c .before .before .before .before in
+      let args = turn .before .before .before .before .args in
+      walkedAs (c .if1 .walked)
+      ≡ symbolDue (tokensOf (now (args .tokens))) (nodeDue (productionAt (now (args .grammar))) (nodesOf (now (args .tree))) (tokensOf (now (args .tokens))) (args .levels)) (symbolAt (now (args .grammar)) (turn .loop .y)) (turn .loop .nodes) (turn .loop .toks)
+  symbol-walked c =
+      let read = c .before .before .symbol-at .ensures in
+      ⊎-elim
+      (λ by. ap walkedAs (by .2) ∙ terminal-due _ _ read _ _ (by .0 .taken) (by .1 .ensures))
+      (λ by. ap walkedAs (by .2) ∙ nonterminal-due _ _ read _ _ (by .0 .left) (by .1 .ensures))
+      (c .if1 .came)
+
+  row-enum-known-walked : row-lts.Need-enum-known-walked row-claims (row-at t) row.Post row-Inv-loop row-μ-loop
+  row-enum-known-walked c = c .match .keys1
+
+  row-enum-known-walked-2 : row-lts.Need-enum-known-walked-2 row-claims (row-at t) row.Post row-Inv-loop row-μ-loop
+  row-enum-known-walked-2 c = c .match .keys2
+
+  row-returns : row-lts.Need-returns row-claims (row-at t) row.Post row-Inv-loop row-μ-loop
+  row-returns c =
+      let at = c .before .before .before in
+      let turn = at .before .before .before .before in
+      row-refused _ _ _ _ _ _ _ (omega arith) (sym (ap walkedAs (c .before .walked2 .given .1)) ∙ symbol-walked at) ∙ turn .loop .inv .2
+
+  row-add-y : row-lts.Need-add-y row-claims (row-at t) row.Post row-Inv-loop row-μ-loop
+  row-add-y c = search needs
+
+  row-loop-less : row-lts.Need-loop-less row-claims (row-at t) row.Post row-Inv-loop row-μ-loop
+  row-loop-less c = omega arith
+
+  row-loop-again : row-lts.Need-loop-again row-claims (row-at t) row.Post row-Inv-loop row-μ-loop
+  row-loop-again c =
+      let at = c .before .before .before in
+      let turn = at .before .before .before .before in
+      (refl, omega arith, row-goes-on _ _ _ _ _ _ _ (omega arith) (sym (ap walkedAs (c .before .walked .given .1)) ∙ symbol-walked at) ∙ turn .loop .inv .2)
+
+  row-returns-2 : row-lts.Need-returns-2 row-claims (row-at t) row.Post row-Inv-loop row-μ-loop
+  row-returns-2 c = row-used _ _ _ _ _ _ _ (omega arith) ∙ c .before .loop .inv .2
+
+pub +node+row-spec : {M : Type 1} → statement M
++node+row-spec = close μ-node μ-row (λ t. node-lts.spec (node-claims t)
+    (node-at t)
+    node.Post
+    (node-node-count-requires t)
+    (node-returns t)
+    (node-node-at-requires t)
+    (node-production-at-requires t)
+    (node-returns-2 t)
+    (node-returns-3 t)
+    (node-sub-row t)
+    (node-add-row t)
+    (node-row-requires t)
+    (node-returns-4 t))
+    λ t. row-lts.spec (row-claims t)
+    (row-at t)
+    row.Post
+    row-Inv-loop
+    row-μ-loop
+    (row-add-end t)
+    (row-loop-holds t)
+    (row-symbol-at-requires t)
+    (row-token-requires t)
+    (row-node-requires t)
+    (row-enum-known-walked t)
+    (row-enum-known-walked-2 t)
+    (row-returns t)
+    (row-add-y t)
+    (row-loop-less t)
+    (row-loop-again t)
+    (row-returns-2 t)

@@ -1,0 +1,83 @@
+// The walk in preorder: a node function and a row function that call each other.
+// Where n nodes and k tokens are used, node n and token k are next.
+use crate::Refusal;
+use images::grammar::production_at;
+use images::grammar::symbol_at;
+use images::tokens::token_at;
+use images::tokens::token_count;
+use images::tree::node_at;
+use images::tree::node_count;
+ghost use mathlib.Core.Path.{_≡_};
+ghost use Rattle.rules.specs.Walk.{tokenDue, nodeDue, rowDue};
+ghost use Rattle.images.specs.Fields.{listFrom};
+ghost use Rattle.images.specs.GrammarImage.{productionAt, symbolAt};
+ghost use Rattle.images.specs.TokenImage.{tokensOf};
+ghost use Rattle.images.specs.TreeImage.{nodesOf};
+ghost use Rattle.derive.specs.Answers.{walkedAs};
+
+// How the walk of a node or of a row ends.
+pub enum Walked {
+    // So many nodes and tokens are used since the root.
+    Used(u16, u16),
+    // The walk ends here.
+    Refused(Refusal),
+}
+
+// A token is due that carries the terminal.
+fn token(tokens: &[u8], terminal: u16, n: u16, k: u16) -> Walked
+    ensures { λ r. ⌜ walkedAs r ≡ tokenDue (tokensOf (now (tokens .entry))) terminal n k ⌝ }
+{
+    let count = token_count(tokens);
+    if k >= count {
+        return Walked::Refused(Refusal::NoToken(count));
+    }
+    let next = token_at(tokens, k);
+    if next.terminal != terminal {
+        return Walked::Refused(Refusal::Terminal(k));
+    }
+    Walked::Used(n, k + 1)
+}
+
+// A node is due that has the nonterminal on its left, where so many levels are left.
+pub fn node(grammar: &[u8], tokens: &[u8], tree: &[u8], levels: u16, nonterminal: u16, n: u16, k: u16) -> Walked
+    ensures { λ r. ⌜ walkedAs r ≡ nodeDue (productionAt (now (grammar .entry))) (nodesOf (now (tree .entry))) (tokensOf (now (tokens .entry))) levels nonterminal n k ⌝ }
+{
+    let count = node_count(tree);
+    if n >= count {
+        return Walked::Refused(Refusal::NoNode(count));
+    }
+    let production = production_at(grammar, node_at(tree, n));
+    if production.left != nonterminal {
+        return Walked::Refused(Refusal::LeftSide(n));
+    }
+    if levels == 0 {
+        return Walked::Refused(Refusal::TooDeep(n));
+    }
+    row(grammar, tokens, tree, levels - 1, production.first, production.count, n + 1, k)
+}
+
+// A row of symbols is due, by the number of its first entry and a count.
+fn row(grammar: &[u8], tokens: &[u8], tree: &[u8], levels: u16, first: u16, count: u16, n: u16, k: u16) -> Walked
+    ensures { λ r. ⌜ walkedAs r ≡ rowDue (tokensOf (now (tokens .entry))) (nodeDue (productionAt (now (grammar .entry))) (nodesOf (now (tree .entry))) (tokensOf (now (tokens .entry))) levels) (listFrom first count (symbolAt (now (grammar .entry)))) n k ⌝ }
+{
+    let start = first as u32;
+    let end = start + (count as u32);
+    let mut nodes = n;
+    let mut toks = k;
+    for y in start..end {
+        let symbol = symbol_at(grammar, y);
+        let walked = if symbol.kind == 0 {
+            token(tokens, symbol.number, nodes, toks)
+        } else {
+            node(grammar, tokens, tree, levels, symbol.number, nodes, toks)
+        };
+        match walked {
+            Walked::Used(used_nodes, used_tokens) => {
+                nodes = used_nodes;
+                toks = used_tokens;
+            }
+            Walked::Refused(refusal) => return Walked::Refused(refusal),
+        }
+    }
+    Walked::Used(nodes, toks)
+}
