@@ -1,1 +1,3 @@
+-- Laws of the walk over the images, and what the contract of `derive` promises.
+pub mod Promised
 pub mod Walking

@@ -9,11 +9,11 @@ use images::tokens::token_count;
 use images::tree::node_count;
 use rules::DEPTH;
 ghost use mathlib.Core.Path.{_≡_};
-ghost use Rattle.rules.specs.Walk.{Answer, walk, walkDone, used};
-ghost use Rattle.images.specs.GrammarImage.{productionAt, startNonterminal};
+ghost use Rattle.rules.specs.Walk.{walkDone, used};
 ghost use Rattle.images.specs.TokenImage.{tokensOf};
 ghost use Rattle.images.specs.TreeImage.{nodesOf};
 ghost use Rattle.derive.specs.Answers.{refusalAnswer, derivationAnswer};
+ghost use Rattle.derive.specs.Images.{walkIn};
 
 // Why a tree does not derive, each with its place.
 pub enum Refusal {
@@ -89,7 +89,7 @@ fn remaining(tokens: &[u8], tree: &[u8], n: u16, k: u16) -> Derivation
 // Whether the nodes of the tree image derive the whole token list from the start nonterminal, by a
 // walk in preorder: derived, or the first refusal among 5 to 11 with its place.
 pub fn derive(grammar: &[u8], tokens: &[u8], tree: &[u8]) -> Derivation
-    ensures { λ r. ⌜ derivationAnswer r ≡ walk (productionAt (now (grammar .entry))) (nodesOf (now (tree .entry))) (tokensOf (now (tokens .entry))) (startNonterminal (now (grammar .entry))) ⌝ }
+    ensures { λ r. ⌜ derivationAnswer r ≡ walkIn (now (grammar .entry)) (now (tokens .entry)) (now (tree .entry)) ⌝ }
 {
     let counts = counts_at(grammar);
     match node(grammar, tokens, tree, DEPTH, counts.start, 0, 0) {

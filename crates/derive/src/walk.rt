@@ -8,12 +8,12 @@ use images::tokens::token_count;
 use images::tree::node_at;
 use images::tree::node_count;
 ghost use mathlib.Core.Path.{_≡_};
-ghost use Rattle.rules.specs.Walk.{tokenDue, nodeDue, rowDue};
+ghost use Rattle.rules.specs.Walk.{tokenDue};
 ghost use Rattle.images.specs.Fields.{listFrom};
-ghost use Rattle.images.specs.GrammarImage.{productionAt, symbolAt};
+ghost use Rattle.images.specs.GrammarImage.{symbolAt};
 ghost use Rattle.images.specs.TokenImage.{tokensOf};
-ghost use Rattle.images.specs.TreeImage.{nodesOf};
 ghost use Rattle.derive.specs.Answers.{walkedAs};
+ghost use Rattle.derive.specs.Images.{nodeDueIn, rowDueIn};
 
 // How the walk of a node or of a row ends.
 pub enum Walked {
@@ -39,8 +39,16 @@ fn token(tokens: &[u8], terminal: u16, n: u16, k: u16) -> Walked
 }
 
 // A node is due that has the nonterminal on its left, where so many levels are left.
-pub fn node(grammar: &[u8], tokens: &[u8], tree: &[u8], levels: u16, nonterminal: u16, n: u16, k: u16) -> Walked
-    ensures { λ r. ⌜ walkedAs r ≡ nodeDue (productionAt (now (grammar .entry))) (nodesOf (now (tree .entry))) (tokensOf (now (tokens .entry))) levels nonterminal n k ⌝ }
+pub fn node(
+    grammar: &[u8],
+    tokens: &[u8],
+    tree: &[u8],
+    levels: u16,
+    nonterminal: u16,
+    n: u16,
+    k: u16,
+) -> Walked
+    ensures { λ r. ⌜ walkedAs r ≡ nodeDueIn (now (grammar .entry)) (now (tokens .entry)) (now (tree .entry)) levels nonterminal n k ⌝ }
 {
     let count = node_count(tree);
     if n >= count {
@@ -53,31 +61,57 @@ pub fn node(grammar: &[u8], tokens: &[u8], tree: &[u8], levels: u16, nonterminal
     if levels == 0 {
         return Walked::Refused(Refusal::TooDeep(n));
     }
-    row(grammar, tokens, tree, levels - 1, production.first, production.count, n + 1, k)
+    row(
+        grammar,
+        tokens,
+        tree,
+        levels - 1,
+        production.first,
+        production.count,
+        n + 1,
+        k,
+    )
 }
 
 // A row of symbols is due, by the number of its first entry and a count.
-fn row(grammar: &[u8], tokens: &[u8], tree: &[u8], levels: u16, first: u16, count: u16, n: u16, k: u16) -> Walked
-    ensures { λ r. ⌜ walkedAs r ≡ rowDue (tokensOf (now (tokens .entry))) (nodeDue (productionAt (now (grammar .entry))) (nodesOf (now (tree .entry))) (tokensOf (now (tokens .entry))) levels) (listFrom first count (symbolAt (now (grammar .entry)))) n k ⌝ }
+fn row(
+    grammar: &[u8],
+    tokens: &[u8],
+    tree: &[u8],
+    levels: u16,
+    first: u16,
+    count: u16,
+    n: u16,
+    k: u16,
+) -> Walked
+    ensures { λ r. ⌜ walkedAs r ≡ rowDueIn (now (grammar .entry)) (now (tokens .entry)) (now (tree .entry)) levels (listFrom first count (symbolAt (now (grammar .entry)))) n k ⌝ }
 {
     let start = first as u32;
     let end = start + (count as u32);
-    let mut nodes = n;
-    let mut toks = k;
+    let mut next_node = n;
+    let mut next_token = k;
     for y in start..end {
         let symbol = symbol_at(grammar, y);
         let walked = if symbol.kind == 0 {
-            token(tokens, symbol.number, nodes, toks)
+            token(tokens, symbol.number, next_node, next_token)
         } else {
-            node(grammar, tokens, tree, levels, symbol.number, nodes, toks)
+            node(
+                grammar,
+                tokens,
+                tree,
+                levels,
+                symbol.number,
+                next_node,
+                next_token,
+            )
         };
         match walked {
-            Walked::Used(used_nodes, used_tokens) => {
-                nodes = used_nodes;
-                toks = used_tokens;
+            Walked::Used(m, j) => {
+                next_node = m;
+                next_token = j;
             }
             Walked::Refused(refusal) => return Walked::Refused(refusal),
         }
     }
-    Walked::Used(nodes, toks)
+    Walked::Used(next_node, next_token)
 }

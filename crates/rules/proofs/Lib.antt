@@ -1,6 +1,7 @@
 -- What is proved of the grammar rule: one tree at most, and what each answer of the walk means.
 pub mod Complete
 pub mod Lists
+pub mod Meaning
 pub mod Refusals
 pub mod Sound
 pub mod Unique

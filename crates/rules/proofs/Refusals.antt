@@ -1,170 +1,23 @@
--- What each answer of the walk means: a tree that the walk ends with is the only one, and a right tree at the head of the lists ends the walk without refusal or with 9.
-use mathlib.Core.Path.{_≡_, refl, sym, ap, subst, _∙_}
-use mathlib.Core.Logic.{_⊎_, inl, inr}
-use mathlib.Core.Bool.{Bool, true, false, cond}
-use mathlib.Core.List.{List, [], _++_}
-use Prim.Native.Nat.{ℕ, _+_, _<_, _≤_}
-use native.Mathlib.Omega.{arith}
-use lib.Dec.{ltb, eqb}
-use lib.ListN.{length, take, drop}
-use borrow.Author.Tests.{ltb-true, ltb-false, le-ltb}
+-- The walk uses all nodes and all tokens exactly if the nodes derive the tokens within the limit, and every other answer says what is wrong.
+use mathlib.Core.Path.{_≡_, refl, subst}
+use mathlib.Core.Logic.{_⊎_}
+use mathlib.Core.List.{List}
+use Prim.Native.Nat.{ℕ, _<_, _≤_}
+use lib.ListN.{length}
 use Rattle.rules.specs.Limits.{maxDepth}
 use Rattle.rules.specs.Grammar.{Production, Token}
-use Rattle.rules.specs.Tree.{Tree}
-use Rattle.rules.specs.Derivation.{Right, nodes, tokens, depth, Derives, DerivesWithin}
-use Rattle.rules.specs.Walk.{Answer, answer, Walked, used, refused, nodeDue, walkDone, walk}
-use Rattle.rules.proofs.Lists.{front-taken, front-whole, whole-front, rest-none}
-use Rattle.rules.proofs.Unique.{same-tree}
-use Rattle.rules.proofs.Sound.{Placed, wrongNode, nodesEnd, wrongToken, tokensEnd, tooDeep, Stands, node-stands, node-placed}
-use Rattle.rules.proofs.Complete.{Met, beyond, tree-met, right-used, right-too-deep}
+use Rattle.rules.specs.Derivation.{depth, Derives, DerivesWithin}
+use Rattle.rules.specs.Walk.{answer, walk}
+use Rattle.rules.specs.Refusals.{NoTree, AllDeeper, NodesRemain, TokensRemain}
+use Rattle.rules.proofs.Meaning.{Means, Meant, ended-meant, within-answered, deep-answered, neither}
 
 module _ (G : ℕ → Production) (start : ℕ) (ns : List ℕ) (ts : List Token) where
-  -- every tree that is right at the start nonterminal and stands at the head of the lists is as P says
-  abbrev pub EachTree : (Tree → Type 0) → Type 0
-  EachTree P = (T : Tree) → Right G T start → (x : List ℕ) (y : List Token) → ns ≡ nodes T ++ x → ts ≡ tokens T ++ y → P T
-
-  -- no such tree stands there
-  abbrev pub NoTree : Type 0
-  NoTree = EachTree (λ T. ⊥)
-
-  -- each that does is deeper than the limit
-  abbrev pub AllDeeper : ℕ → Type 0
-  AllDeeper limit = EachTree (λ T. limit < depth T)
-
-  -- "walk done, nodes remain": a right tree has just the nodes before node n and reads the first of the tokens
-  pub record NodesRemain (n : ℕ) : Type 0 where
-    pub place : n < length ns
-    pub tree : Tree
-    pub right : Right G tree start
-    pub listed : nodes tree ≡ take n ns
-    pub rest : List Token
-    pub read : ts ≡ tokens tree ++ rest
-    pub notDerived : Derives G start ns ts → ⊥
-
-  -- "walk done, tokens remain": a right tree has all nodes and reads just the tokens before token k
-  pub record TokensRemain (k : ℕ) : Type 0 where
-    pub place : k < length ts
-    pub tree : Tree
-    pub right : Right G tree start
-    pub listed : nodes tree ≡ ns
-    pub read : tokens tree ≡ take k ts
-    pub notDerived : Derives G start ns ts → ⊥
-
-  -- what is true of a number and its place
-  abbrev Means : ℕ → ℕ → ℕ → Type 0
-  Means limit number place =
-      cond (eqb number 0) ((place ≡ 0) × DerivesWithin limit G start ns ts)
-      (cond (eqb number 5) ((place < length ns) × NoTree)
-      (cond (eqb number 6) ((place ≡ length ns) × NoTree)
-      (cond (eqb number 7) ((place < length ts) × NoTree)
-      (cond (eqb number 8) ((place ≡ length ts) × NoTree)
-      (cond (eqb number 9) ((place < length ns) × AllDeeper limit)
-      (cond (eqb number 10) (NodesRemain place)
-      (cond (eqb number 11) (TokensRemain place) ⊥)))))))
-
-  record Meant (limit : ℕ) (a : Answer) : Type 0 where
-    known : (a .number ≡ 0) ⊎ ((5 ≤ a .number) × (a .number ≤ 11))
-    means : Means limit (a .number) (a .place)
-
-  all-listed : (d : Derives G start ns ts) → ns ≡ nodes (d .tree) ++ []
-  all-listed d = whole-front _ (d .listed)
-
-  all-read : (d : Derives G start ns ts) → ts ≡ tokens (d .tree) ++ []
-  all-read d = whole-front _ (d .read)
-
-  module _ (limit : ℕ) where
-    none-stands : {r : ℕ} → r < 9 → EachTree (λ T. (r ≡ 9) × (limit < depth T)) → NoTree
-    none-stands h deep T r x y e f = omega (arith, deep T r x y e f)
-
-    placed-meant : {a : Answer} → Placed ns ts a → EachTree (λ T. (a .number ≡ 9) × (limit < depth T)) → Meant limit a
-    placed-meant (wrongNode h) deep = record { known = inr (omega arith); means = (h, none-stands (omega arith) deep) }
-    placed-meant nodesEnd deep = record { known = inr (omega arith); means = (refl, none-stands (omega arith) deep) }
-    placed-meant (wrongToken h) deep = record { known = inr (omega arith); means = (h, none-stands (omega arith) deep) }
-    placed-meant tokensEnd deep = record { known = inr (omega arith); means = (refl, none-stands (omega arith) deep) }
-    placed-meant (tooDeep h) deep = record { known = inr (omega arith); means = (h, λ T r x y e f. deep T r x y e f .1) }
-
-    refused-deep : (a : Answer) → nodeDue G ns ts limit start 0 0 ≡ refused a → EachTree (λ T. (a .number ≡ 9) × (limit < depth T))
-    refused-deep a said T r x y e f = nine (rw said at (tree-met G ns ts T start limit 0 0 x y r e f))
-      where
-        nine : {d n k : ℕ} {a : Answer} → Met d limit n k (refused a) → (a .number ≡ 9) × (limit < d)
-        nine (beyond h) = (refl, h)
-
-    -- the tree that the walk ends with is the only one, so no other uses what remains
-    module _ (n k : ℕ) (s : Stands G ns ts limit start 0 0 n k) where
-      none-left : Derives G start ns ts → (length ns ≤ n) × (length ts ≤ k)
-      none-left d =
-          let same = same-tree G (s .tree) (d .tree) start start _ [] _ [] (s .right) (d .right) (sym (s .listed) ∙ all-listed d) (sym (s .read) ∙ all-read d) in
-          (rest-none ns n (same .1), rest-none ts k (same .2))
-
-      done-meant : (b c : Bool) → ltb n (length ns) ≡ b → ltb k (length ts) ≡ c → Meant limit (cond b (answer 10 n) (cond c (answer 11 k) (answer 0 0)))
-      done-meant true c p q = let more : n < length ns = ltb-true _ _ p in record {
-        known = inr (omega arith);
-        means = record {
-          place = more;
-          tree = s .tree;
-          right = s .right;
-          listed = front-taken ns n _ (s .listed) (omega arith);
-          rest = drop k ts;
-          read = s .read;
-          notDerived = λ d. omega (arith, none-left d);
-        };
-      }
-      done-meant false true p q = let more : k < length ts = ltb-true _ _ q in record {
-        known = inr (omega arith);
-        means = record {
-          place = more;
-          tree = s .tree;
-          right = s .right;
-          listed = front-whole ns n _ (s .listed) (ltb-false _ _ p);
-          read = front-taken ts k _ (s .read) (omega arith);
-          notDerived = λ d. omega (arith, none-left d);
-        };
-      }
-      done-meant false false p q = record {
-        known = inl refl;
-        means = (
-          refl,
-          record {
-            derives = record {
-              tree = s .tree;
-              right = s .right;
-              listed = front-whole ns n _ (s .listed) (ltb-false _ _ p);
-              read = front-whole ts k _ (s .read) (ltb-false _ _ q);
-            };
-            deep = s .deep;
-          },
-        );
-      }
-
-    ended-meant : (w : Walked) → nodeDue G ns ts limit start 0 0 ≡ w → Meant limit (walkDone ns ts w)
-    unfolding walkDone
-    ended-meant (used n k) said = done-meant n k (node-stands G ns ts limit start 0 0 n k said) _ _ refl refl
-    ended-meant (refused a) said = placed-meant (node-placed G ns ts limit start 0 0 a said) (refused-deep a said)
-
-    within-answered : DerivesWithin limit G start ns ts → walkDone ns ts (nodeDue G ns ts limit start 0 0) ≡ answer 0 0
-    unfolding walkDone
-    within-answered d =
-        let t = d .derives in
-        let no-nodes = le-ltb (0 + length (nodes (t .tree))) (length ns) (omega (arith, ap length (t .listed))) in
-        let no-tokens = le-ltb (0 + length (tokens (t .tree))) (length ts) (omega (arith, ap length (t .read))) in
-        rw (right-used G ns ts (t .tree) start limit 0 0 [] [] (t .right) (all-listed t) (all-read t) (d .deep), no-nodes, no-tokens)
-
-    deep-answered : (d : Derives G start ns ts) → limit < depth (d .tree) → walkDone ns ts (nodeDue G ns ts limit start 0 0) .number ≡ 9
-    unfolding walkDone
-    deep-answered d deep = rw (right-too-deep G ns ts (d .tree) start limit 0 0 [] [] (d .right) (all-listed d) (all-read d) deep .1)
-
-    neither : (walkDone ns ts (nodeDue G ns ts limit start 0 0) .number ≡ 0 → ⊥) → (walkDone ns ts (nodeDue G ns ts limit start 0 0) .number ≡ 9 → ⊥) →
-        Derives G start ns ts → ⊥
-    neither not-zero not-nine d =
-        let deep : depth (d .tree) ≤ limit → ⊥ = λ h. not-zero (ap (λ (a : Answer). a .number) (within-answered record { derives = d; deep = h })) in
-        not-nine (deep-answered d (omega arith))
-
-  meant : Meant maxDepth (walk G ns ts start)
+  meant : Meant G start ns ts maxDepth (walk G ns ts start)
   unfolding walk
-  meant = ended-meant maxDepth _ refl
+  meant = ended-meant G start ns ts maxDepth _ refl
 
-  told : {r : ℕ} → walk G ns ts start .number ≡ r → Means maxDepth r (walk G ns ts start .place)
-  told e = subst (λ (r : ℕ). Means maxDepth r (walk G ns ts start .place)) e (meant .means)
+  told : {r : ℕ} → walk G ns ts start .number ≡ r → Means G start ns ts maxDepth r (walk G ns ts start .place)
+  told e = subst (λ (r : ℕ). Means G start ns ts maxDepth r (walk G ns ts start .place)) e (meant .means)
 
   -- the number is one of 0, 5, 6, 7, 8, 9, 10 and 11
   pub answers : (walk G ns ts start .number ≡ 0) ⊎ ((5 ≤ walk G ns ts start .number) × (walk G ns ts start .number ≤ 11))
@@ -179,44 +32,44 @@ module _ (G : ℕ → Production) (start : ℕ) (ns : List ℕ) (ts : List Token
   derived e = told e .1
 
   -- 5: the place is a node, and no right tree stands at the head of the lists
-  pub wrong-node : walk G ns ts start .number ≡ 5 → (walk G ns ts start .place < length ns) × NoTree
+  pub wrong-node : walk G ns ts start .number ≡ 5 → (walk G ns ts start .place < length ns) × NoTree G start ns ts
   wrong-node e = told e
 
   -- 6: the place is the end of the nodes, and no right tree stands at the head of the lists
-  pub nodes-end : walk G ns ts start .number ≡ 6 → (walk G ns ts start .place ≡ length ns) × NoTree
+  pub nodes-end : walk G ns ts start .number ≡ 6 → (walk G ns ts start .place ≡ length ns) × NoTree G start ns ts
   nodes-end e = told e
 
   -- 7: the place is a token, and no right tree stands at the head of the lists
-  pub wrong-token : walk G ns ts start .number ≡ 7 → (walk G ns ts start .place < length ts) × NoTree
+  pub wrong-token : walk G ns ts start .number ≡ 7 → (walk G ns ts start .place < length ts) × NoTree G start ns ts
   wrong-token e = told e
 
   -- 8: the place is the end of the tokens, and no right tree stands at the head of the lists
-  pub tokens-end : walk G ns ts start .number ≡ 8 → (walk G ns ts start .place ≡ length ts) × NoTree
+  pub tokens-end : walk G ns ts start .number ≡ 8 → (walk G ns ts start .place ≡ length ts) × NoTree G start ns ts
   tokens-end e = told e
 
   -- 9: the place is a node, and every right tree at the head of the lists is deeper than the limit
-  pub all-deeper : walk G ns ts start .number ≡ 9 → (walk G ns ts start .place < length ns) × AllDeeper maxDepth
+  pub all-deeper : walk G ns ts start .number ≡ 9 → (walk G ns ts start .place < length ns) × AllDeeper G start ns ts maxDepth
   all-deeper e = told e
 
   -- 10: the place is a node, a right tree has just the nodes before it and reads the first of the tokens, and the lists do not derive
-  pub nodes-remain : walk G ns ts start .number ≡ 10 → NodesRemain (walk G ns ts start .place)
+  pub nodes-remain : walk G ns ts start .number ≡ 10 → NodesRemain G start ns ts (walk G ns ts start .place)
   nodes-remain e = told e
 
   -- 11: the place is a token, a right tree has all nodes and reads just the tokens before it, and the lists do not derive
-  pub tokens-remain : walk G ns ts start .number ≡ 11 → TokensRemain (walk G ns ts start .place)
+  pub tokens-remain : walk G ns ts start .number ≡ 11 → TokensRemain G start ns ts (walk G ns ts start .place)
   tokens-remain e = told e
 
   -- nodes that derive the tokens within the limit are answered with 0
   pub derives-answered : DerivesWithin maxDepth G start ns ts → walk G ns ts start ≡ answer 0 0
   unfolding walk
-  derives-answered d = within-answered maxDepth d
+  derives-answered d = within-answered G start ns ts maxDepth d
 
   -- those whose tree is deeper are answered with 9
   pub too-deep : (d : Derives G start ns ts) → maxDepth < depth (d .tree) → walk G ns ts start .number ≡ 9
   unfolding walk
-  too-deep d deep = deep-answered maxDepth d deep
+  too-deep d deep = deep-answered G start ns ts maxDepth d deep
 
   -- where the number is neither 0 nor 9, the nodes do not derive the tokens
   pub not-derived : (walk G ns ts start .number ≡ 0 → ⊥) → (walk G ns ts start .number ≡ 9 → ⊥) → Derives G start ns ts → ⊥
   unfolding walk
-  not-derived not-zero not-nine d = neither maxDepth not-zero not-nine d
+  not-derived not-zero not-nine d = neither G start ns ts maxDepth not-zero not-nine d

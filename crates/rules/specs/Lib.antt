@@ -2,5 +2,6 @@
 pub mod Derivation
 pub mod Grammar
 pub mod Limits
+pub mod Refusals
 pub mod Tree
 pub mod Walk

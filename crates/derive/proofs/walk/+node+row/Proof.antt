@@ -3,12 +3,12 @@ use mathlib.Core.Path.{_≡_, refl, sym, ap, _∙_}
 use mathlib.Core.Logic.{⊎-elim}
 use Prim.Native.Nat.{ℕ, _<_, _≤_, _+_, _*_, _-_}
 use native.Mathlib.Omega.{arith}
-use Rattle.rules.specs.Walk.{nodeDue, symbolDue, rowDue}
+use Rattle.rules.specs.Walk.{symbolDue}
 use Rattle.images.specs.Fields.{listFrom}
-use Rattle.images.specs.GrammarImage.{symbolAt, productionAt}
+use Rattle.images.specs.GrammarImage.{symbolAt}
 use Rattle.images.specs.TokenImage.{tokensOf}
-use Rattle.images.specs.TreeImage.{nodesOf}
 use Rattle.derive.specs.Answers.{walkedAs}
+use Rattle.derive.specs.Images.{nodeDueIn, rowDueIn}
 use denote.Ref.{now}
 use Rattle.derive.proofs.Walking.{no-node, other-left, too-deep, row-walked, row-refused, row-goes-on, row-used, row-begins, terminal-due, nonterminal-due}
 use borrow.Fn.Kinds.{In}
@@ -46,13 +46,13 @@ abbrev row-below : ℕ → In 3 row-kinds.ps
 row-below t = and 3 row-kinds.ps (falls 3 row-kinds.ps _<_ μ-row t) row.Pre
 
 abbrev row-Inv-loop : row-lts.InvT-loop
-row-Inv-loop grammar tokens tree levels first count n k start end nodes₀ toks₀ y₀ nodes toks y =
+row-Inv-loop grammar tokens tree levels first count n k start end node₀ token₀ y₀ next-node next-token y =
     (end ≡ first + count) × (y ≤ end)
-    × (rowDue (tokensOf tokens) (nodeDue (productionAt grammar) (nodesOf tree) (tokensOf tokens) levels) (listFrom y (end - y) (symbolAt grammar)) nodes toks
-    ≡ rowDue (tokensOf tokens) (nodeDue (productionAt grammar) (nodesOf tree) (tokensOf tokens) levels) (listFrom first count (symbolAt grammar)) n k)
+    × (rowDueIn grammar tokens tree levels (listFrom y (end - y) (symbolAt grammar)) next-node next-token
+    ≡ rowDueIn grammar tokens tree levels (listFrom first count (symbolAt grammar)) n k)
 
 abbrev row-μ-loop : row-lts.MeasureT-loop
-row-μ-loop grammar tokens tree levels first count n k start end nodes₀ toks₀ y₀ nodes toks y = end - y
+row-μ-loop grammar tokens tree levels first count n k start end node₀ token₀ y₀ next-node next-token y = end - y
 
 module _ (t : ℕ) where
   abbrev node-claims : node-lts.Claims
@@ -113,7 +113,7 @@ module _ (t : ℕ) where
       let turn = c .before .before .before .before in
       let args = turn .before .before .before .before .args in
       walkedAs (c .if1 .walked)
-      ≡ symbolDue (tokensOf (now (args .tokens))) (nodeDue (productionAt (now (args .grammar))) (nodesOf (now (args .tree))) (tokensOf (now (args .tokens))) (args .levels)) (symbolAt (now (args .grammar)) (turn .loop .y)) (turn .loop .nodes) (turn .loop .toks)
+      ≡ symbolDue (tokensOf (now (args .tokens))) (nodeDueIn (now (args .grammar)) (now (args .tokens)) (now (args .tree)) (args .levels)) (symbolAt (now (args .grammar)) (turn .loop .y)) (turn .loop .next-node) (turn .loop .next-token)
   symbol-walked c =
       let read = c .before .before .symbol-at .ensures in
       ⊎-elim

@@ -3,8 +3,8 @@ use borrow.Author.Needs.{needs}
 use Prim.Native.Nat.{_-_}
 use mathlib.Core.Path.{_≡_}
 use lib.ListN.{length}
-use Rattle.trial_images.proofs.build.fill.Statement.{statement}
-use Rattle.trial_images.proofs.build.fill.Tie as tie
+use Rattle.trials.proofs.build.fill.Statement.{statement}
+use Rattle.trials.proofs.build.fill.Tie as tie
 
 abbrev Inv-loop : tie.InvT-loop
 Inv-loop image₀ a b even odd i₀ image i = length image ≡ length image₀

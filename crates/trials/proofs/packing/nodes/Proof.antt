@@ -1,8 +1,8 @@
 -- `nodes` is safe and ends: the nodes left fall with each turn.
 use borrow.Author.Needs.{needs}
 use Prim.Native.Nat.{_≤_, _-_}
-use Rattle.trial_images.proofs.packing.nodes.Statement.{statement}
-use Rattle.trial_images.proofs.packing.nodes.Tie as tie
+use Rattle.trials.proofs.packing.nodes.Statement.{statement}
+use Rattle.trials.proofs.packing.nodes.Tie as tie
 
 abbrev Inv-loop : tie.InvT-loop
 Inv-loop image n₀ n-end n = n ≤ n-end

@@ -1,8 +1,8 @@
 -- `bytes` is safe and ends: the bytes left fall with each turn.
 use borrow.Author.Needs.{needs}
 use Prim.Native.Nat.{_≤_, _-_}
-use Rattle.trial_images.proofs.print.bytes.Statement.{statement}
-use Rattle.trial_images.proofs.print.bytes.Tie as tie
+use Rattle.trials.proofs.print.bytes.Statement.{statement}
+use Rattle.trials.proofs.print.bytes.Tie as tie
 
 abbrev Inv-loop : tie.InvT-loop
 Inv-loop image length i₀ i = i ≤ length

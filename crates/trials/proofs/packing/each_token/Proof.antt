@@ -1,8 +1,8 @@
 -- `each_token` is safe and ends: the tokens left fall with each turn.
 use borrow.Author.Needs.{needs}
 use Prim.Native.Nat.{_≤_, _-_}
-use Rattle.trial_images.proofs.packing.each_token.Statement.{statement}
-use Rattle.trial_images.proofs.packing.each_token.Tie as tie
+use Rattle.trials.proofs.packing.each_token.Statement.{statement}
+use Rattle.trials.proofs.packing.each_token.Tie as tie
 
 abbrev Inv-loop : tie.InvT-loop
 Inv-loop image k₀ k-end k = k ≤ k-end

@@ -3,8 +3,8 @@ use borrow.Author.Needs.{needs}
 use Prim.Native.Nat.{_≤_, _-_}
 use mathlib.Core.Path.{_≡_}
 use lib.ListN.{length}
-use Rattle.trial_images.proofs.build.productions.Statement.{statement}
-use Rattle.trial_images.proofs.build.productions.Tie as tie
+use Rattle.trials.proofs.build.productions.Statement.{statement}
+use Rattle.trials.proofs.build.productions.Tie as tie
 
 abbrev Inv-loop : tie.InvT-loop
 Inv-loop image₀ p₀ image p = (p ≤ 1024) × (length image ≡ length image₀)

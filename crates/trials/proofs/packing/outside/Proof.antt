@@ -3,8 +3,8 @@ use borrow.Author.Needs.{needs}
 use native.Mathlib.Omega.{arith}
 use mathlib.Core.Logic.{⊎-elim}
 use Prim.Native.Nat.{_≤_, _-_}
-use Rattle.trial_images.proofs.packing.outside.Statement.{statement}
-use Rattle.trial_images.proofs.packing.outside.Tie as tie
+use Rattle.trials.proofs.packing.outside.Statement.{statement}
+use Rattle.trials.proofs.packing.outside.Tie as tie
 
 abbrev Inv-loop : tie.InvT-loop
 Inv-loop out from changed₀ i₀ i-end changed i = changed ≤ i

@@ -1,0 +1,59 @@
+-- What the contract of `derive` allows: one outcome, which is `Derived` exactly if the nodes of the tree image derive the tokens of the token image within the limit.
+use mathlib.Core.Path.{_≡_, refl, sym, ap, _∙_}
+use mathlib.Core.Bool.{cond}
+use mathlib.Core.List.{List}
+use Prim.Native.Nat.{ℕ}
+use lib.Dec.{eqb}
+use Rattle.rules.specs.Limits.{maxDepth}
+use Rattle.rules.specs.Derivation.{Derives, DerivesWithin}
+use Rattle.rules.specs.Walk.{Answer}
+use Rattle.rules.proofs.Refusals.{derived, derives-answered}
+use Rattle.images.specs.GrammarImage.{productionAt, startNonterminal}
+use Rattle.images.specs.TokenImage.{tokensOf}
+use Rattle.images.specs.TreeImage.{nodesOf}
+use Rattle.derive.specs.declared.Refusal.{Refusal}
+use Rattle.derive.specs.declared.Refusal.the-variants.{LeftSide, NoNode, Terminal, NoToken, TooDeep, NodesRemain, TokensRemain}
+use Rattle.derive.specs.declared.Derivation.{Derivation}
+use Rattle.derive.specs.declared.Derivation.the-variants.{Derived, Refused}
+use Rattle.derive.specs.Answers.{derivationAnswer}
+use Rattle.derive.specs.Images.{walkIn}
+
+-- the outcome that has a number and a place
+outcome : ℕ → ℕ → Derivation
+outcome number place =
+    cond (eqb number 0) Derived
+    (cond (eqb number 5) (Refused (LeftSide place))
+    (cond (eqb number 6) (Refused (NoNode place))
+    (cond (eqb number 7) (Refused (Terminal place))
+    (cond (eqb number 8) (Refused (NoToken place))
+    (cond (eqb number 9) (Refused (TooDeep place))
+    (cond (eqb number 10) (Refused (NodesRemain place)) (Refused (TokensRemain place))))))))
+
+told : (r : Derivation) → outcome (derivationAnswer r .number) (derivationAnswer r .place) ≡ r
+unfolding outcome
+told Derived = refl
+told (Refused (LeftSide place)) = refl
+told (Refused (NoNode place)) = refl
+told (Refused (Terminal place)) = refl
+told (Refused (NoToken place)) = refl
+told (Refused (TooDeep place)) = refl
+told (Refused (NodesRemain place)) = refl
+told (Refused (TokensRemain place)) = refl
+
+-- two outcomes with the same number and place are equal
+same-answer : (r s : Derivation) → derivationAnswer r ≡ derivationAnswer s → r ≡ s
+same-answer r s e = sym (told r) ∙ ap (λ (a : Answer). outcome (a .number) (a .place)) e ∙ told s
+
+module _ (grammar tokens tree : List ℕ) where
+  -- two outcomes that the contract of `derive` allows are equal
+  pub one-outcome : (r s : Derivation) → derivationAnswer r ≡ walkIn grammar tokens tree → derivationAnswer s ≡ walkIn grammar tokens tree → r ≡ s
+  one-outcome r s e f = same-answer r s (e ∙ sym f)
+
+  -- derived: some tree derives the whole token list within the limit
+  pub derived-derives : derivationAnswer Derived ≡ walkIn grammar tokens tree → DerivesWithin maxDepth (productionAt grammar) (startNonterminal grammar) (nodesOf tree) (tokensOf tokens)
+  derived-derives e = derived _ _ _ _ (sym (ap (λ (a : Answer). a .number) e))
+
+  -- and wherever some tree does, derived is the outcome
+  pub derives-derived : (r : Derivation) → derivationAnswer r ≡ walkIn grammar tokens tree →
+      DerivesWithin maxDepth (productionAt grammar) (startNonterminal grammar) (nodesOf tree) (tokensOf tokens) → r ≡ Derived
+  derives-derived r e d = same-answer r Derived (e ∙ derives-answered _ _ _ _ d)
