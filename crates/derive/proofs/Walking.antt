@@ -75,10 +75,10 @@ module _ (grammar tree : List ℕ) (A n : ℕ) where
 
     -- node n has production p, which the reader gives as r
     module _ {p : ℕ} {r : ProductionRead} (node : p ≡ nodeAt tree n) (read : ProductionIs grammar p r) where
-      pub other-left : (levels : ℕ) → n < nodeCount tree → (r .left ≡ A → ⊥) → refused (answer 5 n) ≡ nodeDue (productionAt grammar) (nodesOf tree) ts levels A n k
+      pub other-left : (levels : ℕ) {place : ℕ} → place ≡ n → n < nodeCount tree → (r .left ≡ A → ⊥) → refused (answer 5 place) ≡ nodeDue (productionAt grammar) (nodesOf tree) ts levels A n k
       unfolding nodeDue
-      other-left zero h other = met-other _ h (λ e. other (cc))
-      other-left (suc levels) h other = met-other _ h (λ e. other (cc))
+      other-left zero at h other = rw at (met-other _ h (λ e. other (cc)))
+      other-left (suc levels) at h other = rw at (met-other _ h (λ e. other (cc)))
 
       pub too-deep : (levels : ℕ) → levels ≡ 0 → n < nodeCount tree → r .left ≡ A → refused (answer 9 n) ≡ nodeDue (productionAt grammar) (nodesOf tree) ts levels A n k
       unfolding nodeDue
@@ -159,12 +159,12 @@ module _ (tree tokens : List ℕ) (n k : ℕ) where
       let no-token-left : ltb k (tokenCount tokens) ≡ false = omega tests in
       rw (length-nodes, no-node-left, length-tokens, no-token-left)
 
--- the walk from the root on, whose code ends as w
-module _ (G : ℕ → Production) (ns : List ℕ) (ts : List Token) {s start : ℕ} (due : s ≡ start) {w : WalkedRead} (walked : walkedAs w ≡ nodeDue G ns ts maxDepth s 0 0) where
+-- the walk from the root on, whose code ends as w: all levels are left, and the start nonterminal is due
+module _ (G : ℕ → Production) (ns : List ℕ) (ts : List Token) {levels s start : ℕ} {w : WalkedRead} (walked : walkedAs w ≡ nodeDue G ns ts levels s 0 0) (all : levels ≡ maxDepth) (due : s ≡ start) where
   pub walk-refused : {refusal : Refusal} → w ≡ Refused refusal → refusalAnswer refusal ≡ walk G ns ts start
   unfolding walk walkDone
-  walk-refused e = rw (← due, ← walked, e)
+  walk-refused e = rw (← all, ← due, ← walked, e)
 
   pub walk-done : {a : Answer} (n k : ℕ) → w ≡ Used n k → a ≡ walkDone ns ts (used n k) → a ≡ walk G ns ts start
   unfolding walk
-  walk-done n k e d = rw (← due, ← walked, e) d
+  walk-done n k e d = rw (← all, ← due, ← walked, e) d

@@ -1,13 +1,17 @@
-// Tries the checks of the three images and the two packers on good, damaged and greatest images.
-// A line is a label, then number and place, and for a packer also the length and how many bytes
-// outside the image it changed. `stdout` was written by hand from document 01.
+// Tries the checks of the three images, the two packers and the derivation on good, faulty and
+// greatest images. A line is a label, then number and place, and for a packer also the length and
+// how many bytes outside the image it changed. `stdout` was written by hand from document 01.
 mod build;
 mod checks;
+mod derivation;
 mod grammar;
+mod hours;
 mod limits;
 mod packing;
 mod print;
 mod sheet;
+mod small;
+mod wide;
 
 fn main() {
     grammar::counts();
@@ -31,4 +35,10 @@ fn main() {
     packing::long_tokens();
     packing::trees_back();
     packing::tokens_back();
+    small::sheets();
+    small::nodes();
+    small::tokens();
+    small::from_hours();
+    hours::sheets();
+    wide::sheets();
 }

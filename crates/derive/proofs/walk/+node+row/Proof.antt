@@ -74,7 +74,7 @@ module _ (t : ℕ) where
   node-production-at-requires c κs = search needs
 
   node-returns-2 : node-lts.Need-returns-2 node-claims (node-at t) node.Post
-  node-returns-2 c = other-left _ _ _ _ _ _ (c .before .before .before .node-at .ensures) (c .before .before .production-at .ensures) _ (omega arith) (c .if2 .taken)
+  node-returns-2 c = other-left _ _ _ _ _ _ (c .before .before .before .node-at .ensures) (c .before .before .production-at .ensures) _ (omega arith) (omega arith) (λ e. omega arith)
 
   node-returns-3 : node-lts.Need-returns-3 node-claims (node-at t) node.Post
   node-returns-3 c = too-deep _ _ _ _ _ _ (c .before .before .before .before .node-at .ensures) (c .before .before .before .production-at .ensures) _ (omega arith) (omega arith) (omega arith)
