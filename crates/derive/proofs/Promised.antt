@@ -5,13 +5,12 @@ use mathlib.Core.List.{List}
 use Prim.Native.Nat.{ℕ}
 use lib.Dec.{eqb}
 use Rattle.rules.specs.Limits.{maxDepth}
-use Rattle.rules.specs.Derivation.{Derives, DerivesWithin}
+use Rattle.rules.specs.Derivation.{DerivesWithin}
 use Rattle.rules.specs.Walk.{Answer}
 use Rattle.rules.proofs.Refusals.{derived, derives-answered}
 use Rattle.images.specs.GrammarImage.{productionAt, startNonterminal}
 use Rattle.images.specs.TokenImage.{tokensOf}
 use Rattle.images.specs.TreeImage.{nodesOf}
-use Rattle.derive.specs.declared.Refusal.{Refusal}
 use Rattle.derive.specs.declared.Refusal.the-variants.{LeftSide, NoNode, Terminal, NoToken, TooDeep, NodesRemain, TokensRemain}
 use Rattle.derive.specs.declared.Derivation.{Derivation}
 use Rattle.derive.specs.declared.Derivation.the-variants.{Derived, Refused}

@@ -1,11 +1,10 @@
 -- Laws of the walk over the images, one for each way that a token, a node or a row ends.
-use mathlib.Core.Path.{_≡_, refl, ap, _∙_}
-use mathlib.Core.Bool.{Bool, true, false, cond}
-use mathlib.Core.List.{List, [], _∷_}
+use mathlib.Core.Path.{_≡_, refl, _∙_}
+use mathlib.Core.Bool.{true, false}
+use mathlib.Core.List.{List, _∷_}
 use Prim.Native.Nat.{ℕ, zero, suc, _+_, _-_, _<_, _≤_}
 use native.Mathlib.Omega.{arith}
 use native.Mathlib.Numerals.{add-one}
-use lib.ListN.{length, getD}
 use lib.Dec.{eqb, ltb}
 use Rattle.rules.specs.Grammar.{Symbol, Production, Token}
 use Rattle.rules.specs.Walk.{Walked, used, refused, Answer, answer, andThen, noToken, tokenDue, nodeMet, symbolDue, rowDue, nodeDue, walkDone, walk}

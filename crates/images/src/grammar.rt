@@ -11,7 +11,7 @@ use rules::PRODUCTIONS;
 use rules::ROW;
 use rules::TERMINALS;
 ghost use mathlib.Core.Path.{_≡_};
-ghost use Prim.Native.Nat.{_<_, _≤_};
+ghost use Prim.Native.Nat.{_<_};
 ghost use mathlib.Core.List.{_++_};
 ghost use lib.ListN.{getD};
 ghost use Rattle.images.specs.Fields.{firstFault, nowhere};

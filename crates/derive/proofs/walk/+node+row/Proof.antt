@@ -1,3 +1,5 @@
+-- The cycle of calls {node, row}. A node with so many levels left calls a row with one level less, and a row calls nodes with its own levels, so twice the levels falls, with one more for a row.
+-- Each turn of a row takes one symbol off, and what the symbols that are left give is what the whole row gives.
 use borrow.Author.Needs.{needs}
 use mathlib.Core.Path.{_≡_, refl, sym, ap, _∙_}
 use mathlib.Core.Logic.{⊎-elim}
@@ -9,8 +11,8 @@ use Rattle.images.specs.GrammarImage.{symbolAt}
 use Rattle.images.specs.TokenImage.{tokensOf}
 use Rattle.derive.specs.Answers.{walkedAs}
 use Rattle.derive.specs.Images.{nodeDueIn, rowDueIn}
-use denote.Ref.{now}
 use Rattle.derive.proofs.Walking.{no-node, other-left, too-deep, row-walked, row-refused, row-goes-on, row-used, row-begins, terminal-due, nonterminal-due}
+use denote.Ref.{now}
 use borrow.Fn.Kinds.{In}
 use borrow.Fn.PlainCycle.{Measures, is, falls, and}
 use Rattle.derive.proofs.walk.node.Reads as node
@@ -33,6 +35,7 @@ abbrev μ-node : Measures 3 node-kinds.ps ℕ
 abbrev μ-row : Measures 3 row-kinds.ps ℕ
 μ-row κs a = 2 * a .1 .1 .1 .0 + 1
 
+-- what each is given at the measure t, and what a call of it asks below t
 abbrev node-at : ℕ → In 3 node-kinds.ps
 node-at t = and 3 node-kinds.ps (is 3 node-kinds.ps μ-node t) node.Pre
 
@@ -45,6 +48,7 @@ row-at t = and 3 row-kinds.ps (is 3 row-kinds.ps μ-row t) row.Pre
 abbrev row-below : ℕ → In 3 row-kinds.ps
 row-below t = and 3 row-kinds.ps (falls 3 row-kinds.ps _<_ μ-row t) row.Pre
 
+-- the symbols from y on are left
 abbrev row-Inv-loop : row-lts.InvT-loop
 row-Inv-loop grammar tokens tree levels first count n k start end node₀ token₀ y₀ next-node next-token y =
     (end ≡ first + count) × (y ≤ end)
@@ -55,6 +59,7 @@ abbrev row-μ-loop : row-lts.MeasureT-loop
 row-μ-loop grammar tokens tree levels first count n k start end node₀ token₀ y₀ next-node next-token y = end - y
 
 module _ (t : ℕ) where
+  -- what the calls in each ask and ensure
   abbrev node-claims : node-lts.Claims
   node-claims = (node-count-reads.Asked, node-count-reads.Learnt, node-at-reads.Asked, node-at-reads.Learnt, production-at-reads.Asked, production-at-reads.Learnt, row-below t, row.Post)
 
@@ -74,10 +79,14 @@ module _ (t : ℕ) where
   node-production-at-requires c κs = search needs
 
   node-returns-2 : node-lts.Need-returns-2 node-claims (node-at t) node.Post
-  node-returns-2 c = other-left _ _ _ _ _ _ (c .before .before .before .node-at .ensures) (c .before .before .production-at .ensures) _ (omega arith) (omega arith) (λ e. omega arith)
+  node-returns-2 c =
+      let at = c .before .before in
+      other-left _ _ _ _ _ _ (at .before .node-at .ensures) (at .production-at .ensures) _ (omega arith) (omega arith) (λ e. omega arith)
 
   node-returns-3 : node-lts.Need-returns-3 node-claims (node-at t) node.Post
-  node-returns-3 c = too-deep _ _ _ _ _ _ (c .before .before .before .before .node-at .ensures) (c .before .before .before .production-at .ensures) _ (omega arith) (omega arith) (omega arith)
+  node-returns-3 c =
+      let at = c .before .before .before in
+      too-deep _ _ _ _ _ _ (at .before .node-at .ensures) (at .production-at .ensures) _ (omega arith) (omega arith) (omega arith)
 
   node-sub-row : node-lts.Need-sub-row node-claims (node-at t) node.Post
   node-sub-row c = search needs
