@@ -2,6 +2,8 @@
 pub mod Complete
 pub mod Lists
 pub mod Meaning
+pub mod Prefix
 pub mod Refusals
 pub mod Sound
+pub mod Stays
 pub mod Unique

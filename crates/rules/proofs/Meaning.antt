@@ -1,5 +1,5 @@
 -- What each answer of the walk means, for any limit: a tree that the walk ends with is the only one, and a right tree at the head of the lists ends the walk without refusal or with 9.
-use mathlib.Core.Path.{_≡_, refl, sym, ap, subst, _∙_}
+use mathlib.Core.Path.{_≡_, refl, sym, ap, _∙_}
 use mathlib.Core.Logic.{_⊎_, inl, inr}
 use mathlib.Core.Bool.{Bool, true, false, cond}
 use mathlib.Core.List.{List, [], _++_}
@@ -11,22 +11,23 @@ use borrow.Author.Tests.{ltb-true, ltb-false, le-ltb}
 use Rattle.rules.specs.Grammar.{Production, Token}
 use Rattle.rules.specs.Derivation.{nodes, tokens, depth, Derives, DerivesWithin}
 use Rattle.rules.specs.Walk.{Answer, answer, Walked, used, refused, nodeDue, walkDone}
-use Rattle.rules.specs.Refusals.{EachTree, NoTree, AllDeeper, NodesRemain, TokensRemain}
+use Rattle.rules.specs.Refusals.{WrongNode, NodesEnd, WrongToken, TokensEnd, TooDeep, NodesRemain, TokensRemain}
 use Rattle.rules.proofs.Lists.{front-taken, front-whole, whole-front, rest-none}
 use Rattle.rules.proofs.Unique.{same-tree}
 use Rattle.rules.proofs.Sound.{Placed, wrongNode, nodesEnd, wrongToken, tokensEnd, tooDeep, Stands, node-stands, node-placed}
-use Rattle.rules.proofs.Complete.{Met, beyond, tree-met, right-used, right-too-deep}
+use Rattle.rules.proofs.Complete.{right-used, right-too-deep}
+use Rattle.rules.proofs.Stays.{Refused, wrong-node-stays, nodes-end-stays, wrong-token-stays, tokens-end-stays, too-deep-stays}
 
 module _ (G : ℕ → Production) (start : ℕ) (ns : List ℕ) (ts : List Token) where
   -- what is true of a number and its place
   abbrev pub Means : ℕ → ℕ → ℕ → Type 0
   Means limit number place =
       cond (eqb number 0) ((place ≡ 0) × DerivesWithin limit G start ns ts)
-      (cond (eqb number 5) ((place < length ns) × NoTree G start ns ts)
-      (cond (eqb number 6) ((place ≡ length ns) × NoTree G start ns ts)
-      (cond (eqb number 7) ((place < length ts) × NoTree G start ns ts)
-      (cond (eqb number 8) ((place ≡ length ts) × NoTree G start ns ts)
-      (cond (eqb number 9) ((place < length ns) × AllDeeper G start ns ts limit)
+      (cond (eqb number 5) (WrongNode G start ns ts place)
+      (cond (eqb number 6) (NodesEnd G start ns ts place)
+      (cond (eqb number 7) (WrongToken G start ns ts place)
+      (cond (eqb number 8) (TokensEnd G start ns ts place)
+      (cond (eqb number 9) (TooDeep G start ns ts limit place)
       (cond (eqb number 10) (NodesRemain G start ns ts place)
       (cond (eqb number 11) (TokensRemain G start ns ts place) ⊥)))))))
 
@@ -41,21 +42,12 @@ module _ (G : ℕ → Production) (start : ℕ) (ns : List ℕ) (ts : List Token
   all-read d = whole-front _ (d .read)
 
   module _ (limit : ℕ) where
-    none-stands : {r : ℕ} → r < 9 → EachTree G start ns ts (λ T. (r ≡ 9) × (limit < depth T)) → NoTree G start ns ts
-    none-stands h deep T r x y e f = omega (arith, deep T r x y e f)
-
-    placed-meant : {a : Answer} → Placed ns ts a → EachTree G start ns ts (λ T. (a .number ≡ 9) × (limit < depth T)) → Meant limit a
-    placed-meant (wrongNode h) deep = record { known = inr (omega arith); means = (h, none-stands (omega arith) deep) }
-    placed-meant nodesEnd deep = record { known = inr (omega arith); means = (refl, none-stands (omega arith) deep) }
-    placed-meant (wrongToken h) deep = record { known = inr (omega arith); means = (h, none-stands (omega arith) deep) }
-    placed-meant tokensEnd deep = record { known = inr (omega arith); means = (refl, none-stands (omega arith) deep) }
-    placed-meant (tooDeep h) deep = record { known = inr (omega arith); means = (h, λ T r x y e f. deep T r x y e f .1) }
-
-    refused-deep : (a : Answer) → nodeDue G ns ts limit start 0 0 ≡ refused a → EachTree G start ns ts (λ T. (a .number ≡ 9) × (limit < depth T))
-    refused-deep a said T r x y e f = nine (rw said at (tree-met G ns ts T start limit 0 0 x y r e f))
-      where
-        nine : {d n k : ℕ} {a : Answer} → Met d limit n k (refused a) → (a .number ≡ 9) × (limit < d)
-        nine (beyond h) = (refl, h)
+    placed-meant : {a : Answer} → Placed ns ts a → Refused G start limit ns ts a → Meant limit a
+    placed-meant (wrongNode h) said = record { known = inr (omega arith); means = wrong-node-stays G start limit ns ts h said }
+    placed-meant nodesEnd said = record { known = inr (omega arith); means = nodes-end-stays G start limit ns ts said }
+    placed-meant (wrongToken h) said = record { known = inr (omega arith); means = wrong-token-stays G start limit ns ts h said }
+    placed-meant tokensEnd said = record { known = inr (omega arith); means = tokens-end-stays G start limit ns ts said }
+    placed-meant (tooDeep h) said = record { known = inr (omega arith); means = too-deep-stays G start limit ns ts h said }
 
     -- the tree that the walk ends with is the only one, so no other uses what remains
     module _ (n k : ℕ) (s : Stands G ns ts limit start 0 0 n k) where
@@ -107,7 +99,7 @@ module _ (G : ℕ → Production) (start : ℕ) (ns : List ℕ) (ts : List Token
     pub ended-meant : (w : Walked) → nodeDue G ns ts limit start 0 0 ≡ w → Meant limit (walkDone ns ts w)
     unfolding walkDone
     ended-meant (used n k) said = done-meant n k (node-stands G ns ts limit start 0 0 n k said) _ _ refl refl
-    ended-meant (refused a) said = placed-meant (node-placed G ns ts limit start 0 0 a said) (refused-deep a said)
+    ended-meant (refused a) said = placed-meant (node-placed G ns ts limit start 0 0 a said) said
 
     pub within-answered : DerivesWithin limit G start ns ts → walkDone ns ts (nodeDue G ns ts limit start 0 0) ≡ answer 0 0
     unfolding walkDone

@@ -3,12 +3,11 @@ use mathlib.Core.Path.{_≡_, refl, subst}
 use mathlib.Core.Logic.{_⊎_}
 use mathlib.Core.List.{List}
 use Prim.Native.Nat.{ℕ, _<_, _≤_}
-use lib.ListN.{length}
 use Rattle.rules.specs.Limits.{maxDepth}
 use Rattle.rules.specs.Grammar.{Production, Token}
 use Rattle.rules.specs.Derivation.{depth, Derives, DerivesWithin}
 use Rattle.rules.specs.Walk.{answer, walk}
-use Rattle.rules.specs.Refusals.{NoTree, AllDeeper, NodesRemain, TokensRemain}
+use Rattle.rules.specs.Refusals.{WrongNode, NodesEnd, WrongToken, TokensEnd, TooDeep, NodesRemain, TokensRemain}
 use Rattle.rules.proofs.Meaning.{Means, Meant, ended-meant, within-answered, deep-answered, neither}
 
 module _ (G : ℕ → Production) (start : ℕ) (ns : List ℕ) (ts : List Token) where
@@ -31,24 +30,24 @@ module _ (G : ℕ → Production) (start : ℕ) (ns : List ℕ) (ts : List Token
   pub derived : walk G ns ts start .number ≡ 0 → DerivesWithin maxDepth G start ns ts
   derived e = told e .1
 
-  -- 5: the place is a node, and no right tree stands at the head of the lists
-  pub wrong-node : walk G ns ts start .number ≡ 5 → (walk G ns ts start .place < length ns) × NoTree G start ns ts
+  -- 5: the place is a node, and no right tree stands at the head of the lists, whatever follows that node and the tokens
+  pub wrong-node : walk G ns ts start .number ≡ 5 → WrongNode G start ns ts (walk G ns ts start .place)
   wrong-node e = told e
 
-  -- 6: the place is the end of the nodes, and no right tree stands at the head of the lists
-  pub nodes-end : walk G ns ts start .number ≡ 6 → (walk G ns ts start .place ≡ length ns) × NoTree G start ns ts
+  -- 6: the place is the end of the nodes, and no right tree stands at the head of the lists, whatever follows the tokens
+  pub nodes-end : walk G ns ts start .number ≡ 6 → NodesEnd G start ns ts (walk G ns ts start .place)
   nodes-end e = told e
 
-  -- 7: the place is a token, and no right tree stands at the head of the lists
-  pub wrong-token : walk G ns ts start .number ≡ 7 → (walk G ns ts start .place < length ts) × NoTree G start ns ts
+  -- 7: the place is a token, and no right tree stands at the head of the lists, whatever follows the nodes and that token
+  pub wrong-token : walk G ns ts start .number ≡ 7 → WrongToken G start ns ts (walk G ns ts start .place)
   wrong-token e = told e
 
-  -- 8: the place is the end of the tokens, and no right tree stands at the head of the lists
-  pub tokens-end : walk G ns ts start .number ≡ 8 → (walk G ns ts start .place ≡ length ts) × NoTree G start ns ts
+  -- 8: the place is the end of the tokens, and no right tree stands at the head of the lists, whatever follows the nodes
+  pub tokens-end : walk G ns ts start .number ≡ 8 → TokensEnd G start ns ts (walk G ns ts start .place)
   tokens-end e = told e
 
-  -- 9: the place is a node, and every right tree at the head of the lists is deeper than the limit
-  pub all-deeper : walk G ns ts start .number ≡ 9 → (walk G ns ts start .place < length ns) × AllDeeper G start ns ts maxDepth
+  -- 9: the place is a node, and every right tree at the head of the lists is deeper than the limit, whatever follows that node and the tokens
+  pub all-deeper : walk G ns ts start .number ≡ 9 → TooDeep G start ns ts maxDepth (walk G ns ts start .place)
   all-deeper e = told e
 
   -- 10: the place is a node, a right tree has just the nodes before it and reads the first of the tokens, and the lists do not derive
