@@ -11,7 +11,7 @@ use Rattle.rules.proofs.Refusals.{derived, derives-answered}
 use Rattle.images.specs.GrammarImage.{productionAt, startNonterminal}
 use Rattle.images.specs.TokenImage.{tokensOf}
 use Rattle.images.specs.TreeImage.{nodesOf}
-use Rattle.derive.specs.declared.Refusal.the-variants.{LeftSide, NoNode, Terminal, NoToken, TooDeep, NodesRemain, TokensRemain}
+use Rattle.derive.specs.declared.Refusal.the-variants.{WrongNode, NodesEnd, WrongToken, TokensEnd, TooDeep, NodesRemain, TokensRemain}
 use Rattle.derive.specs.declared.Derivation.{Derivation}
 use Rattle.derive.specs.declared.Derivation.the-variants.{Derived, Refused}
 use Rattle.derive.specs.Answers.{derivationAnswer}
@@ -21,20 +21,20 @@ use Rattle.derive.specs.Images.{walkIn}
 outcome : ℕ → ℕ → Derivation
 outcome number place =
     cond (eqb number 0) Derived
-    (cond (eqb number 5) (Refused (LeftSide place))
-    (cond (eqb number 6) (Refused (NoNode place))
-    (cond (eqb number 7) (Refused (Terminal place))
-    (cond (eqb number 8) (Refused (NoToken place))
+    (cond (eqb number 5) (Refused (WrongNode place))
+    (cond (eqb number 6) (Refused (NodesEnd place))
+    (cond (eqb number 7) (Refused (WrongToken place))
+    (cond (eqb number 8) (Refused (TokensEnd place))
     (cond (eqb number 9) (Refused (TooDeep place))
     (cond (eqb number 10) (Refused (NodesRemain place)) (Refused (TokensRemain place))))))))
 
 told : (r : Derivation) → outcome (derivationAnswer r .number) (derivationAnswer r .place) ≡ r
 unfolding outcome
 told Derived = refl
-told (Refused (LeftSide place)) = refl
-told (Refused (NoNode place)) = refl
-told (Refused (Terminal place)) = refl
-told (Refused (NoToken place)) = refl
+told (Refused (WrongNode place)) = refl
+told (Refused (NodesEnd place)) = refl
+told (Refused (WrongToken place)) = refl
+told (Refused (TokensEnd place)) = refl
 told (Refused (TooDeep place)) = refl
 told (Refused (NodesRemain place)) = refl
 told (Refused (TokensRemain place)) = refl

@@ -1,5 +1,5 @@
 -- Laws of the walk over the images, one for each way that a token, a node or a row ends.
-use mathlib.Core.Path.{_≡_, refl, _∙_}
+use mathlib.Core.Path.{_≡_, refl, sym, _∙_}
 use mathlib.Core.Bool.{true, false}
 use mathlib.Core.List.{List, _∷_}
 use Prim.Native.Nat.{ℕ, zero, suc, _+_, _-_, _<_, _≤_}
@@ -19,52 +19,33 @@ use Rattle.derive.specs.declared.Refusal.{Refusal}
 use Rattle.derive.specs.declared.walk.Walked.{Walked as WalkedRead}
 use Rattle.derive.specs.declared.walk.Walked.the-variants.{Used, Refused}
 use Rattle.derive.specs.Answers.{refusalAnswer, walkedAs}
+use Rattle.rules.proofs.Steps.{token-missing, token-other, token-meets, node-missing, node-other, node-meets}
 use Rattle.images.proofs.Lists.{length-nodes, length-tokens, node-of, token-of}
 use Rattle.images.proofs.Searching.{tests}
 
 -- the terminal a is due
 module _ (image : List ℕ) (a n k : ℕ) where
   pub no-token : {count : ℕ} → count ≡ tokenCount image → count ≤ k → refused (answer 8 count) ≡ tokenDue (tokensOf image) a n k
-  unfolding tokenDue
-  no-token e h =
-      let none : ltb k (tokenCount image) ≡ false = omega tests in
-      rw (length-tokens, none, e)
+  no-token e h = rw (token-missing (tokensOf image) a n k (omega (arith, length-tokens image)), length-tokens, e)
 
   pub other-token : k < tokenCount image → (tokenAt image k .terminal ≡ a → ⊥) → refused (answer 7 k) ≡ tokenDue (tokensOf image) a n k
-  unfolding tokenDue
-  other-token h other =
-      let some : ltb k (tokenCount image) ≡ true = omega tests in
-      let differs : eqb (tokenAt image k .terminal) a ≡ false = omega tests in
-      rw (length-tokens, some, token-of image k noToken h, differs)
+  other-token h other = sym (token-other (tokensOf image) a n k (omega (arith, length-tokens image)) (rw (token-of image k noToken h) other))
 
   pub token-met : k < tokenCount image → tokenAt image k .terminal ≡ a → used n (k + 1) ≡ tokenDue (tokensOf image) a n k
-  unfolding tokenDue
-  token-met h same =
-      let some : ltb k (tokenCount image) ≡ true = omega tests in
-      let agrees : eqb (tokenAt image k .terminal) a ≡ true = omega tests in
-      rw (length-tokens, some, token-of image k noToken h, agrees, add-one)
+  token-met h same = rw (token-meets (tokensOf image) a n k (omega (arith, length-tokens image)) (rw (token-of image k noToken h) same), add-one)
 
 -- the nonterminal A is due
 module _ (grammar tree : List ℕ) (A n : ℕ) where
   met-none : {count : ℕ} (rest : Walked) → count ≡ nodeCount tree → count ≤ n → refused (answer 6 count) ≡ nodeMet (productionAt grammar) (nodesOf tree) A n rest
-  unfolding nodeMet
-  met-none rest e h =
-      let none : ltb n (nodeCount tree) ≡ false = omega tests in
-      rw (length-nodes, none, e)
+  met-none rest e h = rw (node-missing (productionAt grammar) (nodesOf tree) A n rest (omega (arith, length-nodes tree)), length-nodes, e)
 
   met-other : (rest : Walked) → n < nodeCount tree → (leftOf grammar (nodeAt tree n) ≡ A → ⊥) → refused (answer 5 n) ≡ nodeMet (productionAt grammar) (nodesOf tree) A n rest
-  unfolding nodeMet productionAt
-  met-other rest h other =
-      let some : ltb n (nodeCount tree) ≡ true = omega tests in
-      let differs : eqb (leftOf grammar (nodeAt tree n)) A ≡ false = omega tests in
-      rw (length-nodes, some, node-of tree n h, differs)
+  unfolding productionAt
+  met-other rest h other = sym (node-other (productionAt grammar) (nodesOf tree) A n rest (omega (arith, length-nodes tree)) (rw (node-of tree n h) other))
 
   met : (rest : Walked) → n < nodeCount tree → leftOf grammar (nodeAt tree n) ≡ A → rest ≡ nodeMet (productionAt grammar) (nodesOf tree) A n rest
-  unfolding nodeMet productionAt
-  met rest h same =
-      let some : ltb n (nodeCount tree) ≡ true = omega tests in
-      let agrees : eqb (leftOf grammar (nodeAt tree n)) A ≡ true = omega tests in
-      rw (length-nodes, some, node-of tree n h, agrees)
+  unfolding productionAt
+  met rest h same = sym (node-meets (productionAt grammar) (nodesOf tree) A n rest (omega (arith, length-nodes tree)) (rw (node-of tree n h) same))
 
   module _ (ts : List Token) (k : ℕ) where
     pub no-node : (levels : ℕ) {count : ℕ} → count ≡ nodeCount tree → count ≤ n → refused (answer 6 count) ≡ nodeDue (productionAt grammar) (nodesOf tree) ts levels A n k

@@ -1,17 +1,17 @@
 -- Document 01's number and place for each case of the derivation's answer.
 use Rattle.rules.specs.Walk.{Answer, answer, Walked as WalkedTo, used, refused}
 use Rattle.derive.specs.declared.Refusal.{Refusal}
-use Rattle.derive.specs.declared.Refusal.the-variants.{LeftSide, NoNode, Terminal, NoToken, TooDeep, NodesRemain, TokensRemain}
+use Rattle.derive.specs.declared.Refusal.the-variants.{WrongNode, NodesEnd, WrongToken, TokensEnd, TooDeep, NodesRemain, TokensRemain}
 use Rattle.derive.specs.declared.Derivation.{Derivation}
 use Rattle.derive.specs.declared.Derivation.the-variants.{Derived, Refused}
 use Rattle.derive.specs.declared.walk.Walked.{Walked}
 use Rattle.derive.specs.declared.walk.Walked.the-variants.{Used, Refused as RefusedAt}
 
 abbrev pub refusalAnswer : Refusal → Answer
-refusalAnswer (LeftSide node) = answer 5 node
-refusalAnswer (NoNode count) = answer 6 count
-refusalAnswer (Terminal token) = answer 7 token
-refusalAnswer (NoToken count) = answer 8 count
+refusalAnswer (WrongNode node) = answer 5 node
+refusalAnswer (NodesEnd count) = answer 6 count
+refusalAnswer (WrongToken token) = answer 7 token
+refusalAnswer (TokensEnd count) = answer 8 count
 refusalAnswer (TooDeep node) = answer 9 node
 refusalAnswer (NodesRemain node) = answer 10 node
 refusalAnswer (TokensRemain token) = answer 11 token

@@ -18,13 +18,13 @@ ghost use Rattle.derive.specs.Images.{walkIn};
 // Why a tree does not derive, each with its place.
 pub enum Refusal {
     // The node whose left side is not the nonterminal due.
-    LeftSide(u16),
+    WrongNode(u16),
     // A node is due and none remains: the number of nodes.
-    NoNode(u16),
+    NodesEnd(u16),
     // The token that is not the terminal due.
-    Terminal(u16),
+    WrongToken(u16),
     // A token is due and none remains: the number of tokens.
-    NoToken(u16),
+    TokensEnd(u16),
     // The node that is deeper than the limit.
     TooDeep(u16),
     // The first node that is not used.
@@ -47,10 +47,10 @@ impl Refusal {
         ensures { λ r. ⌜ r ≡ refusalAnswer self .number ⌝ }
     {
         match self {
-            Refusal::LeftSide(_) => 5,
-            Refusal::NoNode(_) => 6,
-            Refusal::Terminal(_) => 7,
-            Refusal::NoToken(_) => 8,
+            Refusal::WrongNode(_) => 5,
+            Refusal::NodesEnd(_) => 6,
+            Refusal::WrongToken(_) => 7,
+            Refusal::TokensEnd(_) => 8,
             Refusal::TooDeep(_) => 9,
             Refusal::NodesRemain(_) => 10,
             Refusal::TokensRemain(_) => 11,
@@ -62,10 +62,10 @@ impl Refusal {
         ensures { λ r. ⌜ r ≡ refusalAnswer self .place ⌝ }
     {
         match self {
-            Refusal::LeftSide(node) => node,
-            Refusal::NoNode(nodes) => nodes,
-            Refusal::Terminal(token) => token,
-            Refusal::NoToken(tokens) => tokens,
+            Refusal::WrongNode(node) => node,
+            Refusal::NodesEnd(nodes) => nodes,
+            Refusal::WrongToken(token) => token,
+            Refusal::TokensEnd(tokens) => tokens,
             Refusal::TooDeep(node) => node,
             Refusal::NodesRemain(node) => node,
             Refusal::TokensRemain(token) => token,

@@ -29,11 +29,11 @@ fn token(tokens: &[u8], terminal: u16, n: u16, k: u16) -> Walked
 {
     let count = token_count(tokens);
     if k >= count {
-        return Walked::Refused(Refusal::NoToken(count));
+        return Walked::Refused(Refusal::TokensEnd(count));
     }
     let next = token_at(tokens, k);
     if next.terminal != terminal {
-        return Walked::Refused(Refusal::Terminal(k));
+        return Walked::Refused(Refusal::WrongToken(k));
     }
     Walked::Used(n, k + 1)
 }
@@ -52,11 +52,11 @@ pub fn node(
 {
     let count = node_count(tree);
     if n >= count {
-        return Walked::Refused(Refusal::NoNode(count));
+        return Walked::Refused(Refusal::NodesEnd(count));
     }
     let production = production_at(grammar, node_at(tree, n));
     if production.left != nonterminal {
-        return Walked::Refused(Refusal::LeftSide(n));
+        return Walked::Refused(Refusal::WrongNode(n));
     }
     if levels == 0 {
         return Walked::Refused(Refusal::TooDeep(n));

@@ -5,12 +5,13 @@ use Prim.Native.Nat.{ℕ, zero, suc, _+_, _<_, _≤_, max}
 use native.Mathlib.Nat.{add-zero, add-suc, suc-add}
 use native.Mathlib.Omega.{arith}
 use lib.ListN.{length, drop}
-use borrow.Author.Tests.{lt-ltb, eq-eqb, ne-eqb}
+use borrow.Author.Tests.{eq-eqb, ne-eqb}
 use Rattle.rules.specs.Grammar.{Symbol, Production, Token}
 use Rattle.rules.specs.Tree.{Tree, node, Row, end, token, child}
 use Rattle.rules.specs.Derivation.{Right, RightRow, nodes, rowNodes, tokens, rowTokens, depth, rowDepth}
 use Rattle.rules.specs.Walk.{answer, Walked, used, refused, andThen, noToken, tokenDue, nodeMet, symbolDue, rowDue, nodeDue}
 use Rattle.rules.proofs.Lists.{head-met, front-met, length-two}
+use Rattle.rules.proofs.Steps.{token-meets, node-meets}
 
 -- the walk of what is so deep: it ends at n and k where the levels suffice, and with 9 where they do not
 pub data Met (deep levels n k : ℕ) : Walked → Type 0 where
@@ -30,16 +31,14 @@ met-then rest (beyond h) m = beyond (omega arith)
 
 module _ (G : ℕ → Production) (ns : List ℕ) (ts : List Token) where
   node-met : (A n p : ℕ) (x : List ℕ) (rest : Walked) → G p .left ≡ A → drop n ns ≡ p ∷ x → nodeMet G ns A n rest ≡ rest
-  unfolding nodeMet
   node-met A n p x rest f e =
       let at = head-met ns n 0 p x e in
-      rw (lt-ltb n (length ns) (at .0), at .1, eq-eqb (G p .left) A f)
+      node-meets G ns A n rest (at .0) (rw (at .1) f)
 
   token-met : (n k : ℕ) (t : Token) (y : List Token) → drop k ts ≡ t ∷ y → tokenDue ts (t .terminal) n k ≡ used n (suc k)
-  unfolding tokenDue
   token-met n k t y e =
       let at = head-met ts k noToken t y e in
-      rw (lt-ltb k (length ts) (at .0), at .1, eq-eqb (t .terminal) (t .terminal) refl)
+      token-meets ts (t .terminal) n k (at .0) (rw (at .1))
 
   mutual
     unfolding Right RightRow nodes rowNodes tokens rowTokens depth rowDepth symbolDue rowDue nodeDue andThen

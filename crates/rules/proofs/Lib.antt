@@ -6,4 +6,5 @@ pub mod Prefix
 pub mod Refusals
 pub mod Sound
 pub mod Stays
+pub mod Steps
 pub mod Unique

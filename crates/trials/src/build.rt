@@ -88,8 +88,8 @@ pub fn lay(image: &mut [u8], fields: &[u16]) {
     }
 }
 
-// Some fields changed: `changes` has bytes and values in turn.
-pub fn damage(image: &mut [u8], changes: &[u16]) {
+// Some fields put: `changes` has bytes and values in turn.
+pub fn put_all(image: &mut [u8], changes: &[u16]) {
     for k in 0..changes.len() / 2 {
         change(image, changes[2 * k], changes[2 * k + 1]);
     }

@@ -1,6 +1,6 @@
 // The checks of the three images, named by their refusals.
-use crate::build::damage;
 use crate::build::lay;
+use crate::build::put_all;
 use crate::print::end;
 use crate::print::number;
 use crate::print::start;
@@ -36,6 +36,6 @@ pub fn checked(label: &[u8], refusal: u8, image: &[u8], length: usize) {
 pub fn changed(label: &[u8], refusal: u8, fields: &[u16], changes: &[u16], length: usize) {
     let mut image = [0u8; 96];
     lay(&mut image, fields);
-    damage(&mut image, changes);
+    put_all(&mut image, changes);
     checked(label, refusal, &image, length);
 }

@@ -1,8 +1,8 @@
 // The grammar image of the trial sheets: 16 bytes of header, productions from byte 16, symbols from
 // byte 52, 84 bytes in all.
 use crate::build;
-use crate::build::damage;
 use crate::build::lay;
+use crate::build::put_all;
 use crate::checks::GRAMMAR;
 use crate::checks::changed;
 use crate::checks::checked;
@@ -106,11 +106,11 @@ pub fn order() {
 // One production alone, over one terminal and one nonterminal.
 pub fn rows() {
     let mut image = [0u8; 96];
-    damage(&mut image, &[0, 1, 2, 1, 6, 1, 10, 16, 12, 22, 14, 22]);
+    put_all(&mut image, &[0, 1, 2, 1, 6, 1, 10, 16, 12, 22, 14, 22]);
     checked(b"a row of no symbols", GRAMMAR, &image, 22);
-    damage(&mut image, &[8, 16, 14, 86, 20, 16]);
+    put_all(&mut image, &[8, 16, 14, 86, 20, 16]);
     checked(b"a row of 16 symbols", GRAMMAR, &image, 86);
-    damage(&mut image, &[8, 17, 14, 90, 20, 17]);
+    put_all(&mut image, &[8, 17, 14, 90, 20, 17]);
     checked(b"a row of 17 symbols", GRAMMAR, &image, 90);
 }
 

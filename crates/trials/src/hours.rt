@@ -1,15 +1,15 @@
 // The derivation of sheets of a day and many hours without items: each hour reaches one level
 // deeper than the one before, and 253 reach depth 256.
-use crate::build::damage;
 use crate::build::fill;
 use crate::build::put;
+use crate::build::put_all;
 use crate::derivation::SHEET;
 use crate::derivation::by_trial_grammar;
 
 // The token image: day at column 1, then so many hours at column 3.
 fn lay_tokens(image: &mut [u8], hours: u8) {
     let count = 1 + hours as u16;
-    damage(image, &[0, count, 2, 6, 4, 6 + 4 * count, 6, 0, 8, 1]);
+    put_all(image, &[0, count, 2, 6, 4, 6 + 4 * count, 6, 0, 8, 1]);
     fill(image, 5, 3 + 2 * count, 3, 1);
 }
 
@@ -24,7 +24,7 @@ fn lay_hours(image: &mut [u8], last: u16) {
 fn lay_tree(image: &mut [u8], hours: u8) {
     let last = 1 + 3 * (hours as u16);
     let at = 6 + 2 * last;
-    damage(image, &[0, last + 1, 2, 6, 4, at + 2, 6, 0, at, 2]);
+    put_all(image, &[0, last + 1, 2, 6, 4, at + 2, 6, 0, at, 2]);
     lay_hours(image, last);
 }
 
@@ -33,10 +33,10 @@ fn lay_tree(image: &mut [u8], hours: u8) {
 fn sheet(label: &[u8], hours: u8, token_changes: &[u16], tree_changes: &[u16]) {
     let mut tokens = [0u8; 1030];
     lay_tokens(&mut tokens, hours);
-    damage(&mut tokens, token_changes);
+    put_all(&mut tokens, token_changes);
     let mut tree = [0u8; 1540];
     lay_tree(&mut tree, hours);
-    damage(&mut tree, tree_changes);
+    put_all(&mut tree, tree_changes);
     by_trial_grammar(label, SHEET, &tokens, &tree);
 }
 

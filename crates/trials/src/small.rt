@@ -1,7 +1,7 @@
 // The derivation of small sheets of the trial grammar. Tokens are terminals and columns in turn,
 // nodes are production numbers.
-use crate::build::damage;
 use crate::build::lay;
+use crate::build::put_all;
 use crate::derivation::SHEET;
 use crate::derivation::by_trial_grammar;
 use packers::pack_tree;
@@ -18,7 +18,7 @@ fn lay_tokens(image: &mut [u8], tokens: &[u16]) {
     if count <= 4096 {
         if 6 <= image.len() {
             lay(&mut image[6..], tokens);
-            damage(image, &[0, count as u16, 2, 6, 4, (6 + 4 * count) as u16]);
+            put_all(image, &[0, count as u16, 2, 6, 4, (6 + 4 * count) as u16]);
         }
     }
 }

@@ -1,9 +1,9 @@
 // The derivation of the greatest number of nodes, by a grammar of wide rows: S is R fifteen times,
 // R is Q sixteen times, Q is E sixteen times, E is the terminal, and every relation is free.
-use crate::build::damage;
 use crate::build::fill;
 use crate::build::lay;
 use crate::build::put;
+use crate::build::put_all;
 use crate::derivation::derived;
 
 // Header of the grammar image and its productions: left side, first entry, count.
@@ -58,7 +58,7 @@ fn production(n: u16) -> u16 {
 
 // The tree image of 4,096 nodes.
 fn lay_tree(image: &mut [u8]) {
-    damage(image, &[0, 4096, 2, 6, 4, 8198]);
+    put_all(image, &[0, 4096, 2, 6, 4, 8198]);
     for n in 0..4096 {
         put(image, 6 + 2 * (n as usize), production(n));
     }
@@ -75,11 +75,11 @@ fn by_rows(label: &[u8], tokens: &[u8], tree: &[u8]) {
 // and of the tree image changed: bytes and values in turn.
 fn sheet(label: &[u8], token_changes: &[u16], tree_changes: &[u16]) {
     let mut tokens = [0u8; 16390];
-    damage(&mut tokens, &[0, 3840, 2, 6, 4, 15366]);
-    damage(&mut tokens, token_changes);
+    put_all(&mut tokens, &[0, 3840, 2, 6, 4, 15366]);
+    put_all(&mut tokens, token_changes);
     let mut tree = [0u8; 8198];
     lay_tree(&mut tree);
-    damage(&mut tree, tree_changes);
+    put_all(&mut tree, tree_changes);
     by_rows(label, &tokens, &tree);
 }
 

@@ -12,11 +12,11 @@ Inv-loop image₀ n₀ image n = (n ≤ 4096) × (length image ≡ length image�
 abbrev μ-loop : tie.MeasureT-loop
 μ-loop image₀ n₀ image n = 4096 - n
 
-slice-aggregate-damage : tie.Need-slice-aggregate-damage Inv-loop μ-loop
-slice-aggregate-damage c = search needs
+slice-aggregate-put-all : tie.Need-slice-aggregate-put-all Inv-loop μ-loop
+slice-aggregate-put-all c = search needs
 
-damage-requires : tie.Need-damage-requires Inv-loop μ-loop
-damage-requires c κs = search needs
+put-all-requires : tie.Need-put-all-requires Inv-loop μ-loop
+put-all-requires c κs = search needs
 
 loop-holds : tie.Need-loop-holds Inv-loop μ-loop
 loop-holds c = search needs
@@ -57,8 +57,8 @@ lay-tree-spec =
     (tie.spec
     Inv-loop
     μ-loop
-    slice-aggregate-damage
-    damage-requires
+    slice-aggregate-put-all
+    put-all-requires
     loop-holds
     cast-put
     mul-put

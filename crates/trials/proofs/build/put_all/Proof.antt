@@ -1,10 +1,10 @@
--- `damage` is safe and ends: the changes made are counted up to their number, and the image keeps its length.
+-- `put_all` is safe and ends: the changes made are counted up to their number, and the image keeps its length.
 use borrow.Author.Needs.{needs}
 use Prim.Native.Nat.{_≤_, _-_}
 use mathlib.Core.Path.{_≡_}
 use lib.ListN.{length}
-use Rattle.trials.proofs.build.damage.Statement.{statement}
-use Rattle.trials.proofs.build.damage.Tie as tie
+use Rattle.trials.proofs.build.put_all.Statement.{statement}
+use Rattle.trials.proofs.build.put_all.Tie as tie
 
 abbrev Inv-loop : tie.InvT-loop
 Inv-loop image₀ changes k₀ k-end image k = (k ≤ k-end) × (length image ≡ length image₀)
@@ -54,8 +54,8 @@ same-length c = search needs
 returns : tie.Need-returns Inv-loop μ-loop
 returns c = search needs
 
-pub damage-spec : {M : Type 1} → statement M
-damage-spec =
+pub put-all-spec : {M : Type 1} → statement M
+put-all-spec =
     tie.close
     (tie.spec
     Inv-loop
