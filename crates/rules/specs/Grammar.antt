@@ -1,6 +1,6 @@
 -- "The grammar rule": symbols, productions and tokens.
-use Prim.Native.Nat.{ℕ}
-use mathlib.Core.List.{List}
+use Prim.Native.Nat.{ℕ, _≤_}
+use mathlib.Core.List.{List, [], _∷_}
 
 -- "Each symbol is a terminal or a nonterminal and carries one relation": kind 0 is a terminal, kind 1 a nonterminal
 pub record Symbol : Type 0 where
@@ -17,3 +17,8 @@ pub record Production : Type 0 where
 pub record Token : Type 0 where
   pub terminal : ℕ
   pub column : ℕ
+
+-- every token's column is at most M
+unfoldable pub ColumnsUpTo : ℕ → List Token → Type 0
+ColumnsUpTo M [] = Unit {0}
+ColumnsUpTo M (t ∷ ts) = (t .column ≤ M) × ColumnsUpTo M ts

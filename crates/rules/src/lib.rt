@@ -1,4 +1,5 @@
 // The limits of document 01, each under its name.
+pub mod relation;
 
 // Terminals of a grammar.
 pub const TERMINALS: u16 = 1024;

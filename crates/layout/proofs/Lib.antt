@@ -1,0 +1,7 @@
+-- Laws of the two passes.
+pub mod HighestEmpty
+pub mod IndentationPass
+pub mod Rows
+pub mod SetPass
+pub mod Standing
+pub mod Written

@@ -1,0 +1,184 @@
+-- The cycle of calls {node, row}. A node's row begins at the next node and has fewer symbols than 65,537, a row's child at the row's own node, and the rest of a row at no node before it with one symbol less.
+-- So the nodes that remain fall, and in a row the symbols that remain, with one more for a row.
+use borrow.Author.Needs.{needs}
+use Prim.Native.Nat.{ℕ, _<_, _+_, _*_, _-_}
+use native.Mathlib.Omega.{arith}
+use lib.ListN.{length-set}
+use Rattle.images.specs.TreeImage.{nodeCount}
+use Rattle.layout.proofs.IndentationPass.{count-fits, node-listed, row-behind, node-given, row-end-given, row-after-token, token-given, tree-here, row-after-child, child-given}
+use denote.Ref.{now}
+use borrow.Fn.Kinds.{In}
+use borrow.Fn.PlainCycle.{Measures, is, falls, and}
+use Rattle.layout.proofs.indentations.node.Reads as node
+use Rattle.layout.proofs.indentations.node.Kinds as node-kinds
+use Rattle.layout.proofs.indentations.+node+row.Lts-node as node-lts
+use Rattle.layout.proofs.indentations.row.Reads as row
+use Rattle.layout.proofs.indentations.row.Kinds as row-kinds
+use Rattle.layout.proofs.indentations.+node+row.Lts-row as row-lts
+use Rattle.images.proofs.grammar.production_at.Reads as production-at-reads
+use Rattle.images.proofs.grammar.symbol_at.Reads as symbol-at-reads
+use Rattle.images.proofs.tree.node_at.Reads as node-at-reads
+use Rattle.layout.proofs.indentations.set_at.Reads as set-at-reads
+use Rattle.rules.proofs.relation.least.Reads as least-reads
+use Rattle.layout.proofs.indentations.+node+row.{statement}
+use Rattle.layout.proofs.indentations.+node+row.Tie.{close}
+
+abbrev μ-node : Measures 4 node-kinds.ps ℕ
+μ-node κs a = 65537 * (nodeCount (now (a .1 .0)) - a .1 .1 .1 .1 .0)
+
+abbrev μ-row : Measures 4 row-kinds.ps ℕ
+μ-row κs a = 65537 * (nodeCount (now (a .1 .0)) - a .1 .1 .1 .1 .1 .1 .0) + (a .1 .1 .1 .1 .1 .0 - a .1 .1 .1 .1 .0) + 1
+
+-- what each is given at the measure t, and what a call of it asks below t
+abbrev node-at : ℕ → In 4 node-kinds.ps
+node-at t = and 4 node-kinds.ps (is 4 node-kinds.ps μ-node t) node.Pre
+
+abbrev node-below : ℕ → In 4 node-kinds.ps
+node-below t = and 4 node-kinds.ps (falls 4 node-kinds.ps _<_ μ-node t) node.Pre
+
+abbrev row-at : ℕ → In 4 row-kinds.ps
+row-at t = and 4 row-kinds.ps (is 4 row-kinds.ps μ-row t) row.Pre
+
+abbrev row-below : ℕ → In 4 row-kinds.ps
+row-below t = and 4 row-kinds.ps (falls 4 row-kinds.ps _<_ μ-row t) row.Pre
+
+module _ (t : ℕ) where
+  -- what the calls in each ask and ensure
+  abbrev node-claims : node-lts.Claims
+  node-claims = (node-at-reads.Asked, node-at-reads.Learnt, production-at-reads.Asked, production-at-reads.Learnt, row-below t, row.Post)
+
+  abbrev row-claims : row-lts.Claims
+  row-claims = (symbol-at-reads.Asked, symbol-at-reads.Learnt, row-below t, row.Post, set-at-reads.Asked, set-at-reads.Learnt, least-reads.Asked, least-reads.Learnt, node-below t, node.Post)
+
+  node-mul-indentations : node-lts.Need-mul-indentations node-claims (node-at t) node.Post
+  node-mul-indentations c = omega arith
+
+  node-slice-write-indentations : node-lts.Need-slice-write-indentations node-claims (node-at t) node.Post
+  node-slice-write-indentations c = omega (arith, node-listed _ _ (c .before .before .before .before .pre .1 .0))
+
+  node-node-at-requires : node-lts.Need-node-at-requires node-claims (node-at t) node.Post
+  node-node-at-requires c κs = search needs
+
+  node-production-at-requires : node-lts.Need-production-at-requires node-claims (node-at t) node.Post
+  node-production-at-requires c κs = search needs
+
+  node-cast-first : node-lts.Need-cast-first node-claims (node-at t) node.Post
+  node-cast-first c = search needs
+
+  node-cast-end : node-lts.Need-cast-end node-claims (node-at t) node.Post
+  node-cast-end c = search needs
+
+  node-add-end : node-lts.Need-add-end node-claims (node-at t) node.Post
+  node-add-end c = search needs
+
+  node-add-row : node-lts.Need-add-row node-claims (node-at t) node.Post
+  node-add-row c =
+      let known = c .before .before .before .before .before .before .before in
+      let start = known .before .before in
+      omega (arith, node-listed _ _ (start .pre .1 .0), count-fits (now (start .args .tree)) (λ b. omega (arith, known .shared-slice-known2 .given b)))
+
+  node-row-requires : node-lts.Need-row-requires node-claims (node-at t) node.Post
+  node-row-requires c κs =
+      let called = c .before .before .before in
+      let start = called .before .before .before .before .before .before in
+      (omega (arith, node-listed _ _ (start .pre .1 .0)), (row-behind _ _ _ (called .before .node-at .ensures) (called .production-at .ensures) (start .pre .1 .0), (start .pre .1 .1 .0, rw length-set (start .pre .1 .1 .1))))
+
+  node-same-length : node-lts.Need-same-length node-claims (node-at t) node.Post
+  node-same-length c =
+      let args = c .before .before .before .before .before .before .before .before .before .before .before .before .args in
+      omega (arith, length-set (now (args .indentations)) (args .n) (args .i))
+
+  node-returns : node-lts.Need-returns node-claims (node-at t) node.Post
+  node-returns c =
+      let called = c .before .before .before .before .before .before in
+      let start = called .before .before .before .before .before .before in
+      node-given _ _ _ (called .before .node-at .ensures) (called .production-at .ensures) (start .pre .1 .1 .1) (c .before .before .row .ensures)
+
+  row-returns : row-lts.Need-returns row-claims (row-at t) row.Post
+  row-returns c = row-end-given _ _ (omega arith)
+
+  row-symbol-at-requires : row-lts.Need-symbol-at-requires row-claims (row-at t) row.Post
+  row-symbol-at-requires c κs = search needs
+
+  row-add-row : row-lts.Need-add-row row-claims (row-at t) row.Post
+  row-add-row c = omega arith
+
+  row-row-requires : row-lts.Need-row-requires row-claims (row-at t) row.Post
+  row-row-requires c κs =
+      let at = c .before in
+      let start = at .before .before .before .before .before .before .before .before in
+      (omega arith, (row-after-token _ _ _ _ _ (omega arith) (at .before .before .symbol-at .ensures) (at .if2 .taken) (start .pre .1 .0), start .pre .1 .1))
+
+  row-same-length : row-lts.Need-same-length row-claims (row-at t) row.Post
+  row-same-length c = omega arith
+
+  row-returns-2 : row-lts.Need-returns-2 row-claims (row-at t) row.Post
+  row-returns-2 c =
+      let at = c .before .before .before .before in
+      token-given _ _ _ _ _ (omega arith) (at .before .before .symbol-at .ensures) (at .if2 .taken) (c .before .before .row .ensures)
+
+  row-set-at-requires : row-lts.Need-set-at-requires row-claims (row-at t) row.Post
+  row-set-at-requires c κs =
+      let start = c .before .before .before .before .before .before .before .before in
+      omega (arith, node-listed _ _ (tree-here _ _ _ _ _ (omega arith) (c .before .before .symbol-at .ensures) (c .if2 .left) (start .pre .1 .0)))
+
+  row-least-requires : row-lts.Need-least-requires row-claims (row-at t) row.Post
+  row-least-requires c κs = search needs
+
+  row-node-requires : row-lts.Need-node-requires row-claims (row-at t) row.Post
+  row-node-requires c κs =
+      let at = c .before .before .before in
+      let start = at .before .before .before .before .before .before .before .before in
+      (omega arith, (tree-here _ _ _ _ _ (omega arith) (at .before .before .symbol-at .ensures) (at .if2 .left) (start .pre .1 .0), start .pre .1 .1))
+
+  row-add-row-2 : row-lts.Need-add-row-2 row-claims (row-at t) row.Post
+  row-add-row-2 c = omega arith
+
+  row-row-requires-2 : row-lts.Need-row-requires-2 row-claims (row-at t) row.Post
+  row-row-requires-2 c κs =
+      let at = c .before .before .before .before .before .before .before in
+      let start = at .before .before .before .before .before .before .before .before in
+      let rest = row-after-child _ _ _ _ _ (omega arith) (at .before .before .symbol-at .ensures) (at .if2 .left) (c .before .before .before .node .ensures) (start .pre .1 .0) in
+      (omega arith, (rest .0, (start .pre .1 .1 .0, omega (arith, start .pre .1 .1 .1))))
+
+  row-same-length-2 : row-lts.Need-same-length-2 row-claims (row-at t) row.Post
+  row-same-length-2 c = omega arith
+
+  row-returns-3 : row-lts.Need-returns-3 row-claims (row-at t) row.Post
+  row-returns-3 c =
+      let called = c .before .before .before .before .before .before in
+      let found = called .before .before .before in
+      let start = found .before .before .before .before .before .before .before .before .before in
+      child-given _ _ _ _ _ (omega arith) (found .before .before .before .symbol-at .ensures) (found .before .if2 .left) (called .node .ensures) (start .pre .1 .1 .1) (found .set-at .ensures .0) (found .set-at .ensures .1) (called .before .before .least .ensures) (c .before .before .row2 .ensures)
+
+pub +node+row-spec : {M : Type 1} → statement M
++node+row-spec = close μ-node μ-row (λ t. node-lts.spec (node-claims t)
+    (node-at t)
+    node.Post
+    (node-mul-indentations t)
+    (node-slice-write-indentations t)
+    (node-node-at-requires t)
+    (node-production-at-requires t)
+    (node-cast-first t)
+    (node-cast-end t)
+    (node-add-end t)
+    (node-add-row t)
+    (node-row-requires t)
+    (node-same-length t)
+    (node-returns t))
+    λ t. row-lts.spec (row-claims t)
+    (row-at t)
+    row.Post
+    (row-returns t)
+    (row-symbol-at-requires t)
+    (row-add-row t)
+    (row-row-requires t)
+    (row-same-length t)
+    (row-returns-2 t)
+    (row-set-at-requires t)
+    (row-least-requires t)
+    (row-node-requires t)
+    (row-add-row-2 t)
+    (row-row-requires-2 t)
+    (row-same-length-2 t)
+    (row-returns-3 t)

@@ -1,0 +1,83 @@
+// The indentation pass: the least number of node n goes to n.
+// A node is given its number before those below it, each the least that its set and its parent allow.
+use images::grammar::production_at;
+use images::grammar::symbol_at;
+use images::tree::node_at;
+use rules::relation::Set;
+use rules::relation::least;
+ghost use mathlib.Core.Path.{_≡_};
+ghost use mathlib.Core.List.{List, _++_};
+ghost use Prim.Native.Nat.{ℕ, _+_, _*_, _-_, _≤_};
+ghost use lib.ListN.{length, getD, drop};
+ghost use Rattle.rules.specs.Grammar.{Token};
+ghost use Rattle.rules.specs.Tree.{Tree, Row};
+ghost use Rattle.images.specs.Fields.{listFrom};
+ghost use Rattle.images.specs.GrammarImage.{symbolAt};
+ghost use Rattle.images.specs.TreeImage.{nodeCount};
+ghost use Rattle.layout.specs.Standing.{TreeListed, RowListed, SomeTreeListed, SomeRowListed};
+ghost use Rattle.layout.specs.Passes.{NodeGiven, RowGiven};
+
+// The set of node n.
+fn set_at(sets: &[u32], n: u16) -> Set
+    requires { ⌜ 2 * n + 2 ≤ length (now sets) ⌝ }
+    ensures low { λ r. ⌜ r .low ≡ getD (now (sets .entry)) (2 * n) 0 ⌝ }
+    ensures high { λ r. ⌜ r .high ≡ getD (now (sets .entry)) (2 * n + 1) 0 ⌝ }
+{
+    let at = 2 * (n as usize);
+    Set {
+        low: sets[at],
+        high: sets[at + 1],
+    }
+}
+
+// Gives node n the number i, and each node of its subtree the least that goes with it. Returns the
+// node that comes next.
+pub fn node(
+    grammar: &[u8],
+    tree: &[u8],
+    sets: &[u32],
+    indentations: &mut [u32],
+    n: u16,
+    i: u32,
+) -> u16
+    requires stands { ⌜ SomeTreeListed (now grammar) (now tree) n ⌝ }
+    requires sets { ⌜ 2 * nodeCount (now tree) ≤ length (now sets) ⌝ }
+    requires room { ⌜ nodeCount (now tree) ≤ length (now indentations) ⌝ }
+    ensures { λ r. ⌜ ((ts : List Token) (k : ℕ) (T : Tree) → TreeListed (now (grammar .entry)) (now (tree .entry)) ts n k T → NodeGiven (now (grammar .entry)) T n i (now (sets .entry)) (now (indentations .entry)) (now (indentations .exit)) r) ⌝ }
+{
+    let at = n as usize;
+    indentations[at] = i;
+    let production = production_at(grammar, node_at(tree, n));
+    let first = production.first as u32;
+    let end = first + (production.count as u32);
+    row(grammar, tree, sets, indentations, first, end, n + 1, i)
+}
+
+// Gives the nodes of a row their least numbers below a node with the number i: those of the symbols
+// from entry y up to `end`, from node n on. Returns the node that comes next.
+fn row(
+    grammar: &[u8],
+    tree: &[u8],
+    sets: &[u32],
+    indentations: &mut [u32],
+    y: u32,
+    end: u32,
+    n: u16,
+    i: u32,
+) -> u16
+    requires stands { ⌜ SomeRowListed (now grammar) (now tree) (listFrom y (end - y) (symbolAt (now grammar))) n ⌝ }
+    requires sets { ⌜ 2 * nodeCount (now tree) ≤ length (now sets) ⌝ }
+    requires room { ⌜ nodeCount (now tree) ≤ length (now indentations) ⌝ }
+    ensures { λ r. ⌜ ((ts : List Token) (k : ℕ) (R : Row) → RowListed (now (grammar .entry)) (now (tree .entry)) ts (listFrom y (end - y) (symbolAt (now (grammar .entry)))) n k R → RowGiven (now (grammar .entry)) R (listFrom y (end - y) (symbolAt (now (grammar .entry)))) n i (now (sets .entry)) (now (indentations .entry)) (now (indentations .exit)) r) ⌝ }
+{
+    if y >= end {
+        return n;
+    }
+    let symbol = symbol_at(grammar, y);
+    if symbol.kind == 0 {
+        return row(grammar, tree, sets, indentations, y + 1, end, n, i);
+    }
+    let j = least(symbol.relation, i, set_at(sets, n));
+    let next = node(grammar, tree, sets, indentations, n, j);
+    row(grammar, tree, sets, indentations, y + 1, end, next, i)
+}
