@@ -1,0 +1,146 @@
+-- The three ways out of the check: a refusal before anything is written, an empty set at the root, and acceptance. Each is the verdict on the tree that the nodes derive.
+use mathlib.Core.Path.{_≡_, refl, sym, ap, _∙_}
+use mathlib.Core.List.{List, [], _∷_, _++_, append-nil}
+use Prim.Native.Nat.{ℕ, zero, suc, _+_, _*_, _-_, _<_, _≤_}
+use native.Mathlib.Nat.{zero-add}
+use native.Mathlib.Omega.{arith}
+use lib.ListN.{length, getD, drop}
+use Rattle.rules.specs.Limits.{maxColumn, maxDepth}
+use Rattle.rules.specs.Relation.{rise}
+use Rattle.rules.specs.Grammar.{Token, ColumnsUpTo}
+use Rattle.rules.specs.Tree.{Tree}
+use Rattle.rules.specs.Derivation.{nodes, tokens, depth}
+use Rattle.rules.specs.Walk.{Answer, answer}
+use Rattle.rules.specs.Choice.{flat}
+use Rattle.rules.specs.Stored.{unbounded}
+use Rattle.rules.specs.Interval.{In, setOf, setsOf, leastChoice, highestEmpty}
+use Rattle.rules.specs.Verdict.{refused}
+use Rattle.rules.proofs.Least.{least-small}
+use Rattle.rules.proofs.Shapes.{low-near, length-sets}
+use Rattle.rules.proofs.Verdicts.{verdict-empty, verdict-accepted}
+use Rattle.images.specs.GrammarImage.{terminalCount, startNonterminal, productionAt}
+use Rattle.images.specs.TokenImage.{tokensOf}
+use Rattle.images.specs.TreeImage.{nodeCount, nodesOf}
+use Rattle.images.proofs.Columns.{columns-kept}
+use Rattle.images.proofs.Lists.{length-nodes}
+use Rattle.layout.specs.Standing.{TreeIn, TreeListed, SomeTree, SomeTreeListed}
+use Rattle.layout.specs.Passes.{writtenAt, NodePassed, AllUpTo, NodeGiven}
+use Rattle.layout.specs.declared.sets.Passed.{Passed}
+use Rattle.layout.proofs.HighestEmpty.{highest-append}
+use Rattle.judge.specs.Judged.{tests, firstRefusal, Fitting, DerivesIn, written, Judged}
+use Rattle.judge.proofs.Passed.{all-passed}
+
+-- entries written from the first index on are written at the head
+written-head : (new old : List ℕ) → writtenAt 0 new old ≡ written new old
+unfolding writtenAt
+written-head new old = rw (zero-add (length new))
+
+-- numbers that are at most a limit, each by its index
+up-to : (limit : ℕ) (is : List ℕ) → ((n : ℕ) → getD is n 0 ≤ limit) → AllUpTo limit is
+unfolding AllUpTo
+up-to limit [] h = tt
+up-to limit (i ∷ is) h = (h 0, up-to limit is (λ n. h (suc n)))
+
+module _ (grammar tokenImage tree : List ℕ) (oldSets oldIndentations : List ℕ) where
+  abbrev first : Answer
+  first = firstRefusal (tests grammar tokenImage tree (length oldSets) (length oldIndentations))
+
+  -- 1 to 11
+  pub refused-judged : {a : Answer} → a ≡ first → (a .number ≡ 0 → ⊥) → Judged grammar tokenImage tree oldSets oldIndentations a oldSets oldIndentations
+  refused-judged e some = rw e (record {
+    sets = [];
+    indentations = [];
+    verdict = refused (λ z. some (ap (λ (a : Answer). a .number) e ∙ z));
+    setsAfter = refl;
+    indentationsAfter = refl;
+  })
+
+  -- no test refuses
+  module _ (passed : first .number ≡ 0) where
+    fitting : Fitting grammar tokenImage tree (length oldSets) (length oldIndentations)
+    fitting = all-passed grammar tokenImage tree (length oldSets) (length oldIndentations) passed .0
+
+    within : DerivesIn grammar tokenImage tree
+    within = all-passed grammar tokenImage tree (length oldSets) (length oldIndentations) passed .1
+
+    -- there is room for both lists
+    pub room-for-sets : 2 * nodeCount tree ≤ length oldSets
+    room-for-sets = fitting .setsRoom
+
+    pub room-for-indentations : nodeCount tree ≤ length oldIndentations
+    room-for-indentations = fitting .indentationsRoom
+
+    -- the tree that the nodes derive stands at the first node and token
+    abbrev T : Tree
+    T = within .derives .tree
+
+    stands : TreeIn grammar tokenImage tree 0 0 T
+    stands = record {
+      left = startNonterminal grammar;
+      right = within .derives .right;
+      nodesAfter = [];
+      listed = sym (append-nil (nodes T) ∙ within .derives .listed);
+      tokensAfter = [];
+      read = sym (append-nil (tokens T) ∙ within .derives .read);
+    }
+
+    pub some-tree : SomeTree grammar tokenImage tree 0 0
+    some-tree = record { there = T; stands = stands }
+
+    pub some-tree-listed : SomeTreeListed grammar tree 0
+    some-tree-listed = record { ts = tokensOf tokenImage; k = 0; there = T; stands = stands }
+
+    columns : ColumnsUpTo maxColumn (tokensOf tokenImage)
+    columns = columns-kept (terminalCount grammar) tokenImage (fitting .tokensFormed)
+
+    -- the set pass has gone over it
+    module _ {newSets : List ℕ} {root : Passed} (sets-laid : (T : Tree) → TreeIn grammar tokenImage tree 0 0 T → NodePassed grammar T 0 0 oldSets newSets root) where
+      sets-written : newSets ≡ written (setsOf (productionAt grammar) unbounded T) oldSets
+      sets-written = sets-laid T stands .sets ∙ written-head _ oldSets
+
+      -- 12
+      pub empty-judged : {n count : ℕ} → root .set .high < root .set .low → count ≡ nodeCount tree → n ≡ highestEmpty newSets count →
+          Judged grammar tokenImage tree oldSets oldIndentations (answer 12 n) newSets oldIndentations
+      empty-judged crossed counted found =
+          let sets = setsOf (productionAt grammar) unbounded T in
+          let many : 2 * length (nodesOf tree) ≤ length sets = omega (arith, length-sets (productionAt grammar) unbounded T, ap length (within .derives .listed)) in
+          let place : highestEmpty newSets (nodeCount tree) ≡ highestEmpty sets (length (nodesOf tree)) = rw (← length-nodes tree, sets-written) (highest-append sets _ (length (nodesOf tree)) many) in
+          rw (found, counted, place) (record {
+            sets = sets;
+            indentations = [];
+            verdict = verdict-empty _ _ _ _ _ maxColumn (omega arith) passed (within .derives) columns (rw (← sets-laid T stands .set) crossed);
+            setsAfter = sets-written;
+            indentationsAfter = refl;
+          })
+
+      module _ (some : root .set .low ≤ root .set .high) where
+        abbrev low : ℕ
+        low = setOf (productionAt grammar) unbounded T .low
+
+        nonempty : low ≤ setOf (productionAt grammar) unbounded T .high
+        nonempty = rw (sets-laid T stands .set) at some
+
+        low-in : In unbounded (setOf (productionAt grammar) unbounded T) low
+        low-in = (omega arith, λ h. nonempty)
+
+        -- the numbers of the least choice fit 32 bits
+        numbers-fit : AllUpTo unbounded (flat (leastChoice (productionAt grammar) unbounded T low))
+        numbers-fit =
+            let read : ColumnsUpTo maxColumn (tokens T) = rw (within .derives .read) columns in
+            let near = low-near (productionAt grammar) unbounded maxColumn (omega arith) T (startNonterminal grammar) low (within .derives .right) read low-in in
+            up-to unbounded _ (λ n.
+            omega (arith, within .deep, least-small (productionAt grammar) unbounded maxColumn (omega arith) T (startNonterminal grammar) low 0 (within .derives .right) read low-in (omega (arith, near)) n))
+
+        -- 0
+        pub accepted-judged : {newIndentations : List ℕ} {next : ℕ} → ((ts : List Token) (k : ℕ) (T : Tree) → TreeListed grammar tree ts 0 k T → NodeGiven grammar T 0 (root .set .low) newSets oldIndentations newIndentations next) →
+            Judged grammar tokenImage tree oldSets oldIndentations (answer 0 0) newSets newIndentations
+        accepted-judged {newIndentations} given =
+            let lowest : root .set .low ≡ setOf (productionAt grammar) unbounded T .low = rw (sets-laid T stands .set) in
+            let numbers = (rw lowest at given (tokensOf tokenImage) 0 T stands) .given _ sets-written numbers-fit in
+            record {
+              sets = setsOf (productionAt grammar) unbounded T;
+              indentations = flat (leastChoice (productionAt grammar) unbounded T low);
+              verdict = verdict-accepted _ _ _ _ _ maxColumn (omega arith) passed (within .derives) columns nonempty;
+              setsAfter = sets-written;
+              indentationsAfter = numbers ∙ written-head _ oldIndentations;
+            }

@@ -1,0 +1,81 @@
+-- No test refuses exactly if the images are well formed, there is room, and the nodes derive the tokens within the limit.
+use mathlib.Core.Path.{_≡_, refl, sym, ap, _∙_}
+use mathlib.Core.Bool.{Bool, true, false, cond}
+use mathlib.Core.List.{List, [], _∷_}
+use Prim.Native.Nat.{ℕ, _*_, _<_, _≤_}
+use native.Mathlib.Omega.{arith}
+use lib.Dec.{eqb, ltb}
+use borrow.Author.Tests.{eqb-true, ltb-false, le-ltb}
+use Rattle.rules.specs.Walk.{Answer, answer}
+use Rattle.rules.proofs.Refusals.{derived, derives-answered}
+use Rattle.images.specs.declared.Checked.{Checked}
+use Rattle.images.specs.declared.Checked.the-variants.{Good, Fault}
+use Rattle.images.specs.Answers.{checkedNumber, checkedPlace}
+use Rattle.images.specs.Fields.{firstFault}
+use Rattle.images.specs.GrammarImage.{terminalCount, productionCount, startNonterminal, productionAt, grammarFields}
+use Rattle.images.specs.TokenImage.{tokensOf, tokenFields}
+use Rattle.images.specs.TreeImage.{nodeCount, nodesOf, treeFields}
+use Rattle.images.proofs.Promised.{good-well-formed, well-formed-good}
+use Rattle.derive.specs.Images.{walkIn}
+use Rattle.judge.specs.Judged.{checked, room, tests, firstRefusal, Fitting, DerivesIn}
+
+-- where no test refuses, the first does not and no later one does
+first-passed : (a : Answer) (later : List Answer) → firstRefusal (a ∷ later) .number ≡ 0 → (a .number ≡ 0) × (firstRefusal later .number ≡ 0)
+unfolding firstRefusal
+first-passed a later e = by (eqb (a .number) 0) refl e
+  where
+    by : (b : Bool) → eqb (a .number) 0 ≡ b → cond b (firstRefusal later) a .number ≡ 0 → (a .number ≡ 0) × (firstRefusal later .number ≡ 0)
+    by true t e = (eqb-true _ _ t, e)
+    by false t e = absurd (let z : _≡_ {A = Bool} true false = sym (ap (λ (n : ℕ). eqb n 0) e) ∙ t in false-not-true z)
+      where
+        false-not-true : true ≡ false → ⊥
+        false-not-true z = let y : _≡_ {A = ℕ} 0 1 = cc in omega arith
+
+-- a check that passes is good
+checked-good : (refusal : ℕ) (c : Checked) → (refusal ≡ 0 → ⊥) → checkedNumber refusal c ≡ 0 → Good ≡ c
+checked-good refusal Good some e = refl
+checked-good refusal (Fault byte) some e = absurd (some e)
+
+-- room that is there
+room-there : (needed there : ℕ) → room needed there .number ≡ 0 → needed ≤ there
+unfolding room
+room-there needed there e = by (ltb there needed) refl e
+  where
+    by : (b : Bool) → ltb there needed ≡ b → cond b (answer 4 needed) (answer 0 0) .number ≡ 0 → needed ≤ there
+    by true t e = absurd (omega arith)
+    by false t e = ltb-false _ _ t
+
+module _ (grammar tokens tree : List ℕ) (sets indentations : ℕ) where
+  -- no test refuses: images, room and derivation are right
+  pub all-passed : firstRefusal (tests grammar tokens tree sets indentations) .number ≡ 0 → Fitting grammar tokens tree sets indentations × DerivesIn grammar tokens tree
+  unfolding tests
+  all-passed e =
+      let one = first-passed (checked 1 (firstFault (grammarFields grammar))) _ e in
+      let two = first-passed (checked 2 (firstFault (tokenFields (terminalCount grammar) tokens))) _ (one .1) in
+      let three = first-passed (checked 3 (firstFault (treeFields (productionCount grammar) tree))) _ (two .1) in
+      let four = first-passed (room (2 * nodeCount tree) sets) _ (three .1) in
+      let too = first-passed (room (nodeCount tree) indentations) _ (four .1) in
+      let walked = first-passed (walkIn grammar tokens tree) _ (too .1) in
+      (
+        record {
+          grammarFormed = good-well-formed _ (checked-good 1 _ (λ z. omega arith) (one .0));
+          tokensFormed = good-well-formed _ (checked-good 2 _ (λ z. omega arith) (two .0));
+          treeFormed = good-well-formed _ (checked-good 3 _ (λ z. omega arith) (three .0));
+          setsRoom = room-there _ _ (four .0);
+          indentationsRoom = room-there _ _ (too .0);
+        },
+        derived _ _ _ _ (walked .0),
+      )
+
+  -- images, room and derivation are right: no test refuses
+  pub none-refuses : Fitting grammar tokens tree sets indentations → DerivesIn grammar tokens tree → firstRefusal (tests grammar tokens tree sets indentations) .number ≡ 0
+  unfolding tests firstRefusal room
+  none-refuses f d =
+      rw (
+        ← well-formed-good (grammarFields grammar) (f .grammarFormed),
+        ← well-formed-good (tokenFields (terminalCount grammar) tokens) (f .tokensFormed),
+        ← well-formed-good (treeFields (productionCount grammar) tree) (f .treeFormed),
+        le-ltb sets (2 * nodeCount tree) (f .setsRoom),
+        le-ltb indentations (nodeCount tree) (f .indentationsRoom),
+        derives-answered (productionAt grammar) (startNonterminal grammar) (nodesOf tree) (tokensOf tokens) d,
+      )

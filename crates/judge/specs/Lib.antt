@@ -1,0 +1,2 @@
+-- What the check promises.
+pub mod Judged

@@ -1,0 +1,104 @@
+// The check of document 01: whether a tree is right, over three images, with the set and the least
+// indentation of every node written to two lent lists.
+use derive::Derivation;
+use derive::derive;
+use images::Checked;
+use images::grammar::check_grammar;
+use images::grammar::counts_at;
+use images::tokens::check_tokens;
+use images::tree::check_tree;
+use images::tree::node_count;
+use layout::sets::highest_empty;
+ghost use mathlib.Core.Path.{_≡_};
+ghost use Rattle.judge.specs.Judged.{Judged, given, tests, firstRefusal};
+
+// What the check answers: document 01's number and place.
+pub struct Answer {
+    pub number: u8,
+    pub place: usize,
+}
+
+// The first refusal among 1 to 11, for lists of so many entries; number 0 where there is none.
+fn refusal(grammar: &[u8], tokens: &[u8], tree: &[u8], sets: usize, indentations: usize) -> Answer
+    ensures { λ r. ⌜ given r ≡ firstRefusal (tests (now (grammar .entry)) (now (tokens .entry)) (now (tree .entry)) sets indentations) ⌝ }
+{
+    let checked = check_grammar(grammar);
+    if let Checked::Fault(byte) = checked {
+        return Answer {
+            number: 1,
+            place: byte,
+        };
+    }
+    let counts = counts_at(grammar);
+    let checked = check_tokens(tokens, counts.terminals);
+    if let Checked::Fault(byte) = checked {
+        return Answer {
+            number: 2,
+            place: byte,
+        };
+    }
+    let checked = check_tree(tree, counts.productions);
+    if let Checked::Fault(byte) = checked {
+        return Answer {
+            number: 3,
+            place: byte,
+        };
+    }
+    let nodes = node_count(tree) as usize;
+    if sets < 2 * nodes {
+        return Answer {
+            number: 4,
+            place: 2 * nodes,
+        };
+    }
+    if indentations < nodes {
+        return Answer {
+            number: 4,
+            place: nodes,
+        };
+    }
+    let derivation = derive(grammar, tokens, tree);
+    if let Derivation::Refused(refused) = derivation {
+        return Answer {
+            number: refused.number(),
+            place: refused.place() as usize,
+        };
+    }
+    Answer {
+        number: 0,
+        place: 0,
+    }
+}
+
+// Whether the nodes of the tree image are a right tree over the tokens, and whether indentations can
+// be given to all of them so that every relation holds. Answer 0: the set of node n stands at 2n and
+// 2n + 1 of `sets` as low and high, its least indentation at n of `indentations`. Answer 12: the sets
+// stand there, and the place is the highest-numbered node whose set is empty. Any other answer leaves
+// both lists as they came.
+pub fn check(
+    grammar: &[u8],
+    tokens: &[u8],
+    tree: &[u8],
+    sets: &mut [u32],
+    indentations: &mut [u32],
+) -> Answer
+    ensures { λ r. ⌜ Judged (now (grammar .entry)) (now (tokens .entry)) (now (tree .entry)) (now (sets .entry)) (now (indentations .entry)) (given r) (now (sets .exit)) (now (indentations .exit)) ⌝ }
+{
+    let first = refusal(grammar, tokens, tree, sets.len(), indentations.len());
+    if first.number != 0 {
+        return first;
+    }
+    let root = layout::sets::node(grammar, tokens, tree, sets, 0, 0);
+    if root.set.high < root.set.low {
+        let node = highest_empty(sets, node_count(tree));
+        return Answer {
+            number: 12,
+            place: node as usize,
+        };
+    }
+    layout::indentations::node(grammar, tree, sets, indentations, 0, root.set.low);
+    Answer {
+        number: 0,
+        place: 0,
+    }
+}
