@@ -1,4 +1,7 @@
 -- What is proved of the check.
+pub mod Demands
+pub mod Meaning
 pub mod Outcomes
 pub mod Passed
+pub mod Sheets
 pub mod Tests

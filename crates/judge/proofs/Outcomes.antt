@@ -1,15 +1,14 @@
 -- The three ways out of the check: a refusal before anything is written, an empty set at the root, and acceptance. Each is the verdict on the tree that the nodes derive.
 use mathlib.Core.Path.{_≡_, refl, sym, ap, _∙_}
-use mathlib.Core.List.{List, [], _∷_, _++_, append-nil}
-use Prim.Native.Nat.{ℕ, zero, suc, _+_, _*_, _-_, _<_, _≤_}
+use mathlib.Core.List.{List, [], append-nil}
+use Prim.Native.Nat.{ℕ, _*_, _-_, _<_, _≤_}
 use native.Mathlib.Nat.{zero-add}
 use native.Mathlib.Omega.{arith}
-use lib.ListN.{length, getD, drop}
-use Rattle.rules.specs.Limits.{maxColumn, maxDepth}
-use Rattle.rules.specs.Relation.{rise}
+use lib.ListN.{length}
+use Rattle.rules.specs.Limits.{maxColumn}
 use Rattle.rules.specs.Grammar.{Token, ColumnsUpTo}
 use Rattle.rules.specs.Tree.{Tree}
-use Rattle.rules.specs.Derivation.{nodes, tokens, depth}
+use Rattle.rules.specs.Derivation.{nodes, tokens}
 use Rattle.rules.specs.Walk.{Answer, answer}
 use Rattle.rules.specs.Choice.{flat}
 use Rattle.rules.specs.Stored.{unbounded}
@@ -26,6 +25,7 @@ use Rattle.images.proofs.Lists.{length-nodes}
 use Rattle.layout.specs.Standing.{TreeIn, TreeListed, SomeTree, SomeTreeListed}
 use Rattle.layout.specs.Passes.{writtenAt, NodePassed, AllUpTo, NodeGiven}
 use Rattle.layout.specs.declared.sets.Passed.{Passed}
+use Rattle.layout.proofs.LeastNumbers.{up-to}
 use Rattle.layout.proofs.HighestEmpty.{highest-append}
 use Rattle.judge.specs.Judged.{tests, firstRefusal, Fitting, DerivesIn, written, Judged}
 use Rattle.judge.proofs.Passed.{all-passed}
@@ -34,12 +34,6 @@ use Rattle.judge.proofs.Passed.{all-passed}
 written-head : (new old : List ℕ) → writtenAt 0 new old ≡ written new old
 unfolding writtenAt
 written-head new old = rw (zero-add (length new))
-
--- numbers that are at most a limit, each by its index
-up-to : (limit : ℕ) (is : List ℕ) → ((n : ℕ) → getD is n 0 ≤ limit) → AllUpTo limit is
-unfolding AllUpTo
-up-to limit [] h = tt
-up-to limit (i ∷ is) h = (h 0, up-to limit is (λ n. h (suc n)))
 
 module _ (grammar tokenImage tree : List ℕ) (oldSets oldIndentations : List ℕ) where
   abbrev first : Answer

@@ -1,5 +1,6 @@
 -- No test refuses exactly if the images are well formed, there is room, and the nodes derive the tokens within the limit.
 use mathlib.Core.Path.{_≡_, refl, sym, ap, _∙_}
+use mathlib.Core.Logic.{⊎-elim}
 use mathlib.Core.Bool.{Bool, true, false, cond}
 use mathlib.Core.List.{List, [], _∷_}
 use Prim.Native.Nat.{ℕ, _*_, _<_, _≤_}
@@ -7,10 +8,10 @@ use native.Mathlib.Omega.{arith}
 use lib.Dec.{eqb, ltb}
 use borrow.Author.Tests.{eqb-true, ltb-false, le-ltb}
 use Rattle.rules.specs.Walk.{Answer, answer}
-use Rattle.rules.proofs.Refusals.{derived, derives-answered}
+use Rattle.rules.proofs.Refusals.{answers, derived, derives-answered}
 use Rattle.images.specs.declared.Checked.{Checked}
 use Rattle.images.specs.declared.Checked.the-variants.{Good, Fault}
-use Rattle.images.specs.Answers.{checkedNumber, checkedPlace}
+use Rattle.images.specs.Answers.{checkedNumber}
 use Rattle.images.specs.Fields.{firstFault}
 use Rattle.images.specs.GrammarImage.{terminalCount, productionCount, startNonterminal, productionAt, grammarFields}
 use Rattle.images.specs.TokenImage.{tokensOf, tokenFields}
@@ -30,6 +31,28 @@ first-passed a later e = by (eqb (a .number) 0) refl e
       where
         false-not-true : true ≡ false → ⊥
         false-not-true z = let y : _≡_ {A = ℕ} 0 1 = cc in omega arith
+
+-- a bound of all tests' numbers is one of the first refusal's
+unfoldable AllBelow : List Answer → ℕ → Type 0
+AllBelow [] limit = Unit {0}
+AllBelow (a ∷ later) limit = (a .number < limit) × AllBelow later limit
+
+either-below : (limit : ℕ) (b : Bool) (x y : Answer) → x .number < limit → y .number < limit → cond b x y .number < limit
+either-below limit true x y h k = h
+either-below limit false x y h k = k
+
+first-below : (all : List Answer) (limit : ℕ) → 0 < limit → AllBelow all limit → firstRefusal all .number < limit
+unfolding firstRefusal AllBelow
+first-below [] limit some h = some
+first-below (a ∷ later) limit some h = either-below limit (eqb (a .number) 0) (firstRefusal later) a (first-below later limit some (h .1)) (h .0)
+
+checked-below : (refusal limit : ℕ) (c : Checked) → refusal < limit → checkedNumber refusal c < limit
+checked-below refusal limit Good h = omega arith
+checked-below refusal limit (Fault byte) h = h
+
+room-below : (needed there : ℕ) → room needed there .number < 12
+unfolding room
+room-below needed there = either-below 12 (ltb there needed) (answer 4 needed) (answer 0 0) (omega arith) (omega arith)
 
 -- a check that passes is good
 checked-good : (refusal : ℕ) (c : Checked) → (refusal ≡ 0 → ⊥) → checkedNumber refusal c ≡ 0 → Good ≡ c
@@ -55,8 +78,7 @@ module _ (grammar tokens tree : List ℕ) (sets indentations : ℕ) where
       let three = first-passed (checked 3 (firstFault (treeFields (productionCount grammar) tree))) _ (two .1) in
       let four = first-passed (room (2 * nodeCount tree) sets) _ (three .1) in
       let too = first-passed (room (nodeCount tree) indentations) _ (four .1) in
-      let walked = first-passed (walkIn grammar tokens tree) _ (too .1) in
-      (
+      let walked = first-passed (walkIn grammar tokens tree) _ (too .1) in (
         record {
           grammarFormed = good-well-formed _ (checked-good 1 _ (λ z. omega arith) (one .0));
           tokensFormed = good-well-formed _ (checked-good 2 _ (λ z. omega arith) (two .0));
@@ -66,6 +88,24 @@ module _ (grammar tokens tree : List ℕ) (sets indentations : ℕ) where
         },
         derived _ _ _ _ (walked .0),
       )
+
+  -- what the tests refuse with is below 12
+  pub refusal-below : firstRefusal (tests grammar tokens tree sets indentations) .number < 12
+  unfolding tests AllBelow
+  refusal-below =
+      first-below (tests grammar tokens tree sets indentations) 12 (omega arith) (
+        checked-below 1 12 (firstFault (grammarFields grammar)) (omega arith),
+        (
+          checked-below 2 12 (firstFault (tokenFields (terminalCount grammar) tokens)) (omega arith),
+          (
+            checked-below 3 12 (firstFault (treeFields (productionCount grammar) tree)) (omega arith),
+            (room-below (2 * nodeCount tree) sets, (room-below (nodeCount tree) indentations, (walk-below, tt))),
+          ),
+        ),
+      )
+    where
+      walk-below : walkIn grammar tokens tree .number < 12
+      walk-below = ⊎-elim (λ e. omega arith) (λ e. omega arith) (answers (productionAt grammar) (startNonterminal grammar) (nodesOf tree) (tokensOf tokens))
 
   -- images, room and derivation are right: no test refuses
   pub none-refuses : Fitting grammar tokens tree sets indentations → DerivesIn grammar tokens tree → firstRefusal (tests grammar tokens tree sets indentations) .number ≡ 0

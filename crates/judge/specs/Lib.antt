@@ -1,2 +1,3 @@
--- What the check promises.
+-- What the check promises, and the starred trial sheets.
 pub mod Judged
+pub mod Sheets

@@ -1,6 +1,7 @@
 -- Laws of the two passes.
 pub mod HighestEmpty
 pub mod IndentationPass
+pub mod LeastNumbers
 pub mod Rows
 pub mod SetPass
 pub mod Standing

@@ -1,9 +1,9 @@
 -- Where a right tree stands, its row stands behind its node; where a right row stands, its first child stands there and the rest of the row behind it.
-use mathlib.Core.Path.{_≡_, refl, sym, _∙_}
+use mathlib.Core.Path.{_≡_, refl}
 use mathlib.Core.List.{List, [], _∷_, _++_, append-assoc}
-use Prim.Native.Nat.{ℕ, suc, _+_, _<_}
+use Prim.Native.Nat.{ℕ, _+_, _<_}
 use native.Mathlib.Numerals.{add-one}
-use lib.ListN.{length, getD, drop}
+use lib.ListN.{length, getD}
 use Rattle.rules.specs.Grammar.{Symbol, Production, Token}
 use Rattle.rules.specs.Tree.{Tree, node, Row, end, token, child}
 use Rattle.rules.specs.Derivation.{Terminal, Nonterminal, Right, RightRow, nodes, rowNodes, tokens, rowTokens}

@@ -1,12 +1,12 @@
 -- Laws of entries written into a list: two runs of entries one behind the other are one run.
-use mathlib.Core.Path.{_≡_, refl, sym, ap, _∙_}
+use mathlib.Core.Path.{_≡_, _∙_}
 use mathlib.Core.List.{List, [], _∷_, _++_, append-assoc}
-use Prim.Native.Nat.{ℕ, _+_, _≤_, min}
+use Prim.Native.Nat.{ℕ, _+_, _<_, _≤_}
 use native.Mathlib.Nat.{add-zero, add-assoc}
 use native.Mathlib.Numerals.{add-one}
 use native.Mathlib.Omega.{arith}
 use lib.ListN.{length, take, drop, length-append, length-take, length-drop, take-append-drop, set}
-use lib.Seq.{length-take-le, take-at, drop-at, take-take, take-append-le, drop-drop, sets-eq}
+use lib.Seq.{length-take-le, take-at, drop-at, take-take, take-append-le, drop-drop, set-split, sets-eq}
 use Rattle.layout.specs.Passes.{writtenAt}
 
 -- nothing written
@@ -43,3 +43,8 @@ length-written at new old room = rw (length-append, length-append, length-take, 
 pub written-two : (at a b : ℕ) (old : List ℕ) → at + 2 ≤ length old → set (set old at a) (at + 1) b ≡ writtenAt at (a ∷ b ∷ []) old
 unfolding writtenAt
 written-two at a b old room = rw add-one (sets-eq (a ∷ b ∷ []) old at room ∙ append-assoc (take at old) (a ∷ b ∷ []) (drop (at + 2) old))
+
+-- one store
+pub written-one : (old : List ℕ) (at a : ℕ) → at < length old → set old at a ≡ writtenAt at (a ∷ []) old
+unfolding writtenAt
+written-one old at a h = rw (set-split old at a h, add-one)

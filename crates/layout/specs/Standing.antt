@@ -1,14 +1,19 @@
 -- A right tree or row that stands in lists of nodes and tokens: what the passes are called on.
 use mathlib.Core.Path.{_≡_}
 use mathlib.Core.List.{List, _++_}
-use Prim.Native.Nat.{ℕ}
+use Prim.Native.Nat.{ℕ, _-_}
 use lib.ListN.{drop}
 use Rattle.rules.specs.Grammar.{Symbol, Production, Token}
 use Rattle.rules.specs.Tree.{Tree, Row}
 use Rattle.rules.specs.Derivation.{Right, RightRow, nodes, rowNodes, tokens, rowTokens}
-use Rattle.images.specs.GrammarImage.{productionAt}
+use Rattle.images.specs.Fields.{listFrom}
+use Rattle.images.specs.GrammarImage.{symbolAt, productionAt}
 use Rattle.images.specs.TokenImage.{tokensOf}
 use Rattle.images.specs.TreeImage.{nodesOf}
+
+-- the symbols from entry y up to entry `to`
+abbrev pub symbols : List ℕ → ℕ → ℕ → List Symbol
+symbols grammar y to = listFrom y (to - y) (symbolAt grammar)
 
 module _ (G : ℕ → Production) (ns : List ℕ) (ts : List Token) where
   -- the right tree T is listed from node n on, and its tokens stand from token k on

@@ -7,14 +7,12 @@ use rules::relation::Set;
 use rules::relation::least;
 ghost use mathlib.Core.Path.{_≡_};
 ghost use mathlib.Core.List.{List, _++_};
-ghost use Prim.Native.Nat.{ℕ, _+_, _*_, _-_, _≤_};
+ghost use Prim.Native.Nat.{ℕ, _+_, _*_, _≤_};
 ghost use lib.ListN.{length, getD, drop};
 ghost use Rattle.rules.specs.Grammar.{Token};
 ghost use Rattle.rules.specs.Tree.{Tree, Row};
-ghost use Rattle.images.specs.Fields.{listFrom};
-ghost use Rattle.images.specs.GrammarImage.{symbolAt};
 ghost use Rattle.images.specs.TreeImage.{nodeCount};
-ghost use Rattle.layout.specs.Standing.{TreeListed, RowListed, SomeTreeListed, SomeRowListed};
+ghost use Rattle.layout.specs.Standing.{symbols, TreeListed, RowListed, SomeTreeListed, SomeRowListed};
 ghost use Rattle.layout.specs.Passes.{NodeGiven, RowGiven};
 
 // The set of node n.
@@ -65,10 +63,10 @@ fn row(
     n: u16,
     i: u32,
 ) -> u16
-    requires stands { ⌜ SomeRowListed (now grammar) (now tree) (listFrom y (end - y) (symbolAt (now grammar))) n ⌝ }
+    requires stands { ⌜ SomeRowListed (now grammar) (now tree) (symbols (now grammar) y end) n ⌝ }
     requires sets { ⌜ 2 * nodeCount (now tree) ≤ length (now sets) ⌝ }
     requires room { ⌜ nodeCount (now tree) ≤ length (now indentations) ⌝ }
-    ensures { λ r. ⌜ ((ts : List Token) (k : ℕ) (R : Row) → RowListed (now (grammar .entry)) (now (tree .entry)) ts (listFrom y (end - y) (symbolAt (now (grammar .entry)))) n k R → RowGiven (now (grammar .entry)) R (listFrom y (end - y) (symbolAt (now (grammar .entry)))) n i (now (sets .entry)) (now (indentations .entry)) (now (indentations .exit)) r) ⌝ }
+    ensures { λ r. ⌜ ((ts : List Token) (k : ℕ) (R : Row) → RowListed (now (grammar .entry)) (now (tree .entry)) ts (symbols (now (grammar .entry)) y end) n k R → RowGiven (now (grammar .entry)) R (symbols (now (grammar .entry)) y end) n i (now (sets .entry)) (now (indentations .entry)) (now (indentations .exit)) r) ⌝ }
 {
     if y >= end {
         return n;

@@ -11,14 +11,12 @@ use rules::relation::meet;
 use rules::relation::token_leaves;
 ghost use mathlib.Core.Path.{_≡_};
 ghost use mathlib.Core.List.{[], _∷_};
-ghost use Prim.Native.Nat.{ℕ, _+_, _*_, _-_, _≤_};
+ghost use Prim.Native.Nat.{ℕ, _+_, _*_, _≤_};
 ghost use lib.ListN.{length};
 ghost use Rattle.rules.specs.Interval.{highestEmpty};
 ghost use Rattle.rules.specs.Tree.{Tree, Row};
-ghost use Rattle.images.specs.Fields.{listFrom};
-ghost use Rattle.images.specs.GrammarImage.{symbolAt};
 ghost use Rattle.images.specs.TreeImage.{nodeCount};
-ghost use Rattle.layout.specs.Standing.{TreeIn, RowIn, SomeTree, SomeRow};
+ghost use Rattle.layout.specs.Standing.{symbols, TreeIn, RowIn, SomeTree, SomeRow};
 ghost use Rattle.layout.specs.Passes.{writtenAt, NodePassed, RowPassed};
 
 // What the pass of a node or of a row gives: a set, and the node and the token that come next.
@@ -65,9 +63,9 @@ fn row(
     n: u16,
     k: u16,
 ) -> Passed
-    requires stands { ⌜ SomeRow (now grammar) (now tokens) (now tree) (listFrom y (end - y) (symbolAt (now grammar))) n k ⌝ }
+    requires stands { ⌜ SomeRow (now grammar) (now tokens) (now tree) (symbols (now grammar) y end) n k ⌝ }
     requires room { ⌜ 2 * nodeCount (now tree) ≤ length (now sets) ⌝ }
-    ensures { λ r. ⌜ ((R : Row) → RowIn (now (grammar .entry)) (now (tokens .entry)) (now (tree .entry)) (listFrom y (end - y) (symbolAt (now (grammar .entry)))) n k R → RowPassed (now (grammar .entry)) R (listFrom y (end - y) (symbolAt (now (grammar .entry)))) set n k (now (sets .entry)) (now (sets .exit)) r) ⌝ }
+    ensures { λ r. ⌜ ((R : Row) → RowIn (now (grammar .entry)) (now (tokens .entry)) (now (tree .entry)) (symbols (now (grammar .entry)) y end) n k R → RowPassed (now (grammar .entry)) R (symbols (now (grammar .entry)) y end) set n k (now (sets .entry)) (now (sets .exit)) r) ⌝ }
 {
     if y >= end {
         return Passed {

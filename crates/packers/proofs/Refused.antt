@@ -8,6 +8,7 @@ use types.Run.{OneOf}
 use denote.Enum.Declared.{tagOf}
 use Rattle.packers.specs.declared.Packed.{Packed}
 use Rattle.packers.specs.declared.Packed.the-variants.{Written, Entries, Column, Room}
+use Rattle.packers.specs.Answers.{packedNumber}
 use Rattle.packers.specs.Packing.{written}
 use Rattle.packers.proofs.Packed.{the-type}
 
@@ -16,3 +17,10 @@ refused (Written n) h image out = absurd (⊎-elim (λ e. omega arith) (λ f. �
 refused Entries h image out = refl
 refused (Column k) h image out = refl
 refused (Room n) h image out = refl
+
+-- by its number: one that is not 0
+pub refusal-writes-nothing : (r : Packed) → (packedNumber r ≡ 0 → ⊥) → (image out : List ℕ) → written r image out ≡ out
+refusal-writes-nothing (Written n) some image out = absurd (some refl)
+refusal-writes-nothing Entries some image out = refl
+refusal-writes-nothing (Column k) some image out = refl
+refusal-writes-nothing (Room n) some image out = refl

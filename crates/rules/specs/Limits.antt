@@ -1,5 +1,6 @@
 -- The limits of document 01, each under its name, as the definitions cite them.
-use Prim.Native.Nat.{ℕ}
+use Prim.Native.Nat.{ℕ, _+_, _*_, _-_}
+use Rattle.rules.specs.Relation.{rise}
 
 abbrev pub maxTerminals : ℕ
 maxTerminals = 1024
@@ -27,3 +28,7 @@ maxNodes = 4096
 
 abbrev pub maxDepth : ℕ
 maxDepth = 256
+
+-- "With the limits below no entry exceeds 4,350": the root's least indentation is at most the greatest column, and each level below it may rise
+abbrev pub maxIndentation : ℕ
+maxIndentation = maxColumn + rise * (maxDepth - 1)

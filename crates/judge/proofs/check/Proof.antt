@@ -56,8 +56,7 @@ node-requires-2 : tie.Need-node-requires-2
 node-requires-2 c κs =
     let at = c .before .before .before .before .before .before in
     let else = at .before .before in
-    let a = else .before .before .before .before .before .before .before .before .args in
-    (
+    let a = else .before .before .before .before .before .before .before .before .args in (
       some-tree-listed (now (a .grammar)) (now (a .tokens)) (now (a .tree)) (now (a .sets)) (now (a .indentations)) (passed else),
       (omega (arith, sets-room else, at .node .kept .1 .1 .1 .0), room-for-indentations (now (a .grammar)) (now (a .tokens)) (now (a .tree)) (now (a .sets)) (now (a .indentations)) (passed else)),
     )

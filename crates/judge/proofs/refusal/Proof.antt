@@ -1,14 +1,13 @@
 -- `judge::refusal` meets its contract: each test comes after those before it have passed, and the first that refuses is the answer.
 use borrow.Author.Needs.{needs}
 use mathlib.Core.Path.{_≡_, sym, ap, _∙_}
-use Prim.Native.Nat.{_*_, _≤_}
 use native.Mathlib.Omega.{arith}
 use denote.Ref.{now}
 use Rattle.images.specs.declared.Checked.the-variants.{Good}
 use Rattle.images.specs.Fields.{firstFault}
 use Rattle.images.specs.GrammarImage.{terminalCount, productionCount, grammarFields}
 use Rattle.images.specs.TokenImage.{tokenFields}
-use Rattle.images.specs.TreeImage.{nodeCount, treeFields}
+use Rattle.images.specs.TreeImage.{treeFields}
 use Rattle.derive.specs.Answers.{derivationAnswer}
 use Rattle.judge.proofs.Tests.{grammar-refused, tokens-refused, tree-refused, sets-refused, indentations-refused, walk-refused, none-refused}
 use Rattle.judge.proofs.refusal.Statement.{statement}

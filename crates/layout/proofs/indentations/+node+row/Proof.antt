@@ -5,7 +5,8 @@ use Prim.Native.Nat.{ℕ, _<_, _+_, _*_, _-_}
 use native.Mathlib.Omega.{arith}
 use lib.ListN.{length-set}
 use Rattle.images.specs.TreeImage.{nodeCount}
-use Rattle.layout.proofs.IndentationPass.{count-fits, node-listed, row-behind, node-given, row-end-given, row-after-token, token-given, tree-here, row-after-child, child-given}
+use Rattle.layout.proofs.Rows.{count-fits}
+use Rattle.layout.proofs.IndentationPass.{node-listed, row-behind, node-given, row-end-given, row-after-token, token-given, tree-here, row-after-child, child-given}
 use denote.Ref.{now}
 use borrow.Fn.Kinds.{In}
 use borrow.Fn.PlainCycle.{Measures, is, falls, and}

@@ -1,3 +1,5 @@
+-- The cycle of calls {node, row}. A node's row begins at the next node and has fewer symbols than 65,537, a row's child at the row's own node, and the rest of a row at no node before it with one symbol less.
+-- So the nodes that remain fall, and in a row the symbols that remain, with one more for a row.
 use borrow.Author.Needs.{needs}
 use mathlib.Core.Path.{refl, ap, _∙_}
 use Prim.Native.Nat.{ℕ, _<_, _+_, _*_, _-_}
@@ -35,6 +37,7 @@ abbrev μ-node : Measures 4 node-kinds.ps ℕ
 abbrev μ-row : Measures 4 row-kinds.ps ℕ
 μ-row κs a = 65537 * (nodeCount (now (a .1 .1 .0)) - a .1 .1 .1 .1 .1 .1 .1 .0) + (a .1 .1 .1 .1 .1 .0 - a .1 .1 .1 .1 .0) + 1
 
+-- what each is given at the measure t, and what a call of it asks below t
 abbrev node-at : ℕ → In 4 node-kinds.ps
 node-at t = and 4 node-kinds.ps (is 4 node-kinds.ps μ-node t) node.Pre
 
@@ -62,7 +65,7 @@ module _ (t : ℕ) where
   within c =
       let start = c .before .before .before in
       let stands = start .pre .1 .0 in
-      (omega (arith, length-nodes (now (start .args .tree)), node-within _ _ _ _ _ (stands .there) (stands .stands)), count-fits (now (start .args .tree)) (omega (arith, c .shared-slice-known3 .given 0)) (omega (arith, c .shared-slice-known3 .given 1)))
+      (omega (arith, length-nodes (now (start .args .tree)), node-within _ _ _ _ _ (stands .there) (stands .stands)), count-fits (now (start .args .tree)) (λ b. omega (arith, c .shared-slice-known3 .given b)))
 
   node-node-at-requires : node-lts.Need-node-at-requires node-claims (node-at t) node.Post
   node-node-at-requires c κs = search needs
@@ -130,7 +133,7 @@ module _ (t : ℕ) where
   row-add-row-2 c =
       let s = c .before .before .before .before .before .before .before .before .before .before in
       let start = s .before .before in
-      omega (arith, token-within _ _ _ (c .before .before .before .before .before .before .before .if1 .left) (c .before .before .before .before .before .before .symbol-at .ensures) (c .before .before .before .before .if2 .taken) (start .pre .1 .0), count-fits (now (start .args .tokens)) (omega (arith, s .shared-slice-known2 .given 0)) (omega (arith, s .shared-slice-known2 .given 1)))
+      omega (arith, token-within _ _ _ (c .before .before .before .before .before .before .before .if1 .left) (c .before .before .before .before .before .before .symbol-at .ensures) (c .before .before .before .before .if2 .taken) (start .pre .1 .0), count-fits (now (start .args .tokens)) (λ b. omega (arith, s .shared-slice-known2 .given b)))
 
   row-row-requires : row-lts.Need-row-requires row-claims (row-at t) row.Post
   row-row-requires c κs =

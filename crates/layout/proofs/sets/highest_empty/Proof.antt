@@ -1,5 +1,4 @@
 -- `layout::sets::highest_empty` meets its contract: the nodes are gone through from the last one down, and the first that is met is the answer.
-use borrow.Author.Needs.{needs}
 use mathlib.Core.Path.{_≡_, refl, _∙_}
 use Prim.Native.Nat.{_≤_}
 use native.Mathlib.Omega.{arith}

@@ -1,0 +1,95 @@
+-- The desk's three conditions, sentence by sentence, as theorems about what the contracts allow. A reader of this file and of crates/rules/specs knows what was promised.
+use mathlib.Core.Path.{_≡_}
+use mathlib.Core.Logic.{_⊎_}
+use mathlib.Core.List.{List, map}
+use Prim.Native.Nat.{ℕ, _+_, _*_, _<_, _≤_}
+use lib.ListN.{length, getD, take, drop}
+use Rattle.rules.specs.Limits.{maxIndentation}
+use Rattle.rules.specs.Derivation.{Right}
+use Rattle.rules.specs.Tree.{Tree}
+use Rattle.rules.specs.Walk.{Answer, answer}
+use Rattle.rules.specs.Grammar.{Production}
+use Rattle.rules.specs.Choice.{Choice, Laid, InSet, Least}
+use Rattle.rules.specs.Stored.{Stored, SetOf, HighestEmpty, Shape, Empty, subtrees}
+use Rattle.rules.proofs.Shapes.{lemma-4}
+use Rattle.rules.proofs.Subtrees.{empty-above}
+use Rattle.images.specs.Fields.{Bytes, WellFormed}
+use Rattle.images.specs.GrammarImage.{productionAt}
+use Rattle.images.specs.TokenImage.{tokensOf, tokenFields}
+use Rattle.images.specs.TreeImage.{nodeCount, nodesOf, treeFields}
+use Rattle.packers.specs.declared.Packed.{Packed}
+use Rattle.packers.specs.declared.Packed.the-variants.{Written}
+use Rattle.packers.specs.Answers.{packedNumber}
+use Rattle.packers.specs.Packing.{treeImage, tokenImage, written, TreePacked, TokensPacked}
+use Rattle.packers.proofs.Refused.{refusal-writes-nothing}
+use Rattle.packers.proofs.RoundTrip.{terminalOf, columnOf, tree-reads-back, tokens-read-back, tree-is-packed, tokens-are-packed}
+use Rattle.judge.specs.Judged.{Fitting, DerivesIn, Judged}
+use Rattle.judge.proofs.Meaning as meaning
+
+-- 1. "Every call on every content of the inputs ends with the one answer and place": `check` has no `requires`, and two outcomes that its contract allows are equal
+pub one-outcome : {grammar tokens tree oldSets oldIndentations : List ℕ} {a b : Answer} {xs ys is js : List ℕ} →
+    Judged grammar tokens tree oldSets oldIndentations a xs is → Judged grammar tokens tree oldSets oldIndentations b ys js → (a ≡ b) × (xs ≡ ys) × (is ≡ js)
+one-outcome = meaning.one-judged
+
+-- "a packer that refuses writes nothing"
+pub packer-leaves : (r : Packed) → (packedNumber r ≡ 0 → ⊥) → (image out : List ℕ) → written r image out ≡ out
+packer-leaves = refusal-writes-nothing
+
+-- 2. "By lemma 4 of document 000 a set that is not empty is all whole numbers, a single number, or all numbers up to some n"
+pub set-shape : (G : ℕ → Production) (T : Tree) (A : ℕ) → Right G T A → Shape (InSet G T)
+set-shape = lemma-4
+
+-- "A set empty below makes every set above it empty, also through a free relation"
+pub empty-below : (G : ℕ → Production) (T : Tree) (n : ℕ) → n < length (subtrees T) → Empty (SetOf G T n) → Empty (InSet G T)
+empty-below = empty-above
+
+-- "A packed list reads back as that list"
+pub tree-back : (productions out : List ℕ) (r : Packed) (after : List ℕ) (n : ℕ) → TreePacked productions out r after → r ≡ Written n → nodesOf (take n after) ≡ productions
+tree-back = tree-reads-back
+
+pub tokens-back : (terminals columns out : List ℕ) (r : Packed) (after : List ℕ) (n : ℕ) → TokensPacked terminals columns out r after → r ≡ Written n →
+    (map terminalOf (tokensOf (take n after)) ≡ terminals) × (map columnOf (tokensOf (take n after)) ≡ columns)
+tokens-back = tokens-read-back
+
+-- "a well-formed token or tree image is exactly what packing its contents gives"
+pub tree-packed : (P : ℕ) (image : List ℕ) → Bytes image → WellFormed (treeFields P image) → treeImage (nodesOf image) ≡ image
+tree-packed = tree-is-packed
+
+pub tokens-packed : (T : ℕ) (image : List ℕ) → Bytes image → WellFormed (tokenFields T image) → tokenImage (map terminalOf (tokensOf image)) (map columnOf (tokensOf image)) ≡ image
+tokens-packed = tokens-are-packed
+
+-- with what one call of `check` leaves
+module _ {grammar tokens tree oldSets oldIndentations : List ℕ} {a : Answer} {newSets newIndentations : List ℕ} (j : Judged grammar tokens tree oldSets oldIndentations a newSets newIndentations) where
+  -- "Refusals 1 to 11 change no buffer"
+  pub refusals-leave : 1 ≤ a .number → a .number ≤ 11 → (newSets ≡ oldSets) × (newIndentations ≡ oldIndentations)
+  refusals-leave = meaning.refused-unchanged j
+
+  -- "12 writes the sets and leaves the indentations", at the "highest-numbered node with an empty set"
+  pub twelve-leaves : a .number ≡ 12 → (newIndentations ≡ oldIndentations) × ((d : DerivesIn grammar tokens tree) → HighestEmpty (productionAt grammar) (d .derives .tree) (a .place))
+  twelve-leaves = meaning.twelve-says j
+
+  -- 2. every entry of the sets says the set of its node, and "Entries beyond those named never change"
+  pub sets-say : (a .number ≡ 0) ⊎ (a .number ≡ 12) → (d : DerivesIn grammar tokens tree) →
+      ((n : ℕ) → n < nodeCount tree → Stored (SetOf (productionAt grammar) (d .derives .tree) n) (getD newSets (2 * n) 0) (getD newSets (2 * n + 1) 0))
+      × (drop (2 * nodeCount tree) newSets ≡ drop (2 * nodeCount tree) oldSets)
+  sets-say = meaning.sets-written j
+
+  -- 3. "With well-formed images, room, and a tree at most 256 deep: accepted exactly if the tree derives the whole token list and whole numbers can be given to all its nodes so that every relation holds": if
+  pub accepted-if : Fitting grammar tokens tree (length oldSets) (length oldIndentations) → (d : DerivesIn grammar tokens tree) (C : Choice) → Laid (productionAt grammar) (d .derives .tree) C → a ≡ answer 0 0
+  accepted-if = meaning.chosen-zero j
+
+  -- and only if
+  pub accepted-only-if : a .number ≡ 0 → Fitting grammar tokens tree (length oldSets) (length oldIndentations) × (d : DerivesIn grammar tokens tree) × (C : Choice) × Laid (productionAt grammar) (d .derives .tree) C
+  accepted-only-if = meaning.zero-chosen j
+
+  -- "The numbers returned are such a choice, and no choice gives any node a smaller one"
+  pub least-returned : a .number ≡ 0 → (d : DerivesIn grammar tokens tree) → Least (productionAt grammar) (d .derives .tree) (take (nodeCount tree) newIndentations) × (drop (nodeCount tree) newIndentations ≡ drop (nodeCount tree) oldIndentations)
+  least-returned = meaning.zero-least j
+
+  -- "If it derives and is refused, no choice exists"
+  pub refused-none : Fitting grammar tokens tree (length oldSets) (length oldIndentations) → (d : DerivesIn grammar tokens tree) → (a .number ≡ 0 → ⊥) → (C : Choice) → Laid (productionAt grammar) (d .derives .tree) C → ⊥
+  refused-none = meaning.refused-unlaid j
+
+  -- "no entry exceeds 4,350"
+  pub indentations-small : a .number ≡ 0 → (n : ℕ) → n < nodeCount tree → getD newIndentations n 0 ≤ maxIndentation
+  indentations-small = meaning.zero-small j

@@ -1,0 +1,162 @@
+-- What the check's contract says of the answer and of each list, by the verdict that stands in it.
+use mathlib.Core.Path.{_≡_, refl, sym, ap, _∙_}
+use mathlib.Core.Logic.{_⊎_, ⊎-elim}
+use mathlib.Core.Bool.{Bool, true, false}
+use mathlib.Core.List.{List}
+use Prim.Native.Nat.{ℕ, _+_, _*_, _<_, _≤_}
+use native.Mathlib.Omega.{arith}
+use lib.Dec.{eqb}
+use lib.ListN.{length, getD, take, drop, List·getD-append}
+use lib.Seq.{take-at, drop-at}
+use borrow.Author.Tests.{eqb-true, eqb-false}
+use Rattle.rules.specs.Limits.{maxColumn, maxDepth, maxIndentation}
+use Rattle.rules.specs.Grammar.{Production, Token}
+use Rattle.rules.specs.Derivation.{nodes, depth, Derives}
+use Rattle.rules.specs.Walk.{Answer, answer}
+use Rattle.rules.specs.Choice.{Choice, Laid, Least}
+use Rattle.rules.specs.Stored.{Stored, subtrees, StoredSets, SetOf, HighestEmpty}
+use Rattle.rules.specs.Verdict.{Verdict, refused, empty, accepted}
+use Rattle.rules.proofs.Unique.{one-tree}
+use Rattle.rules.proofs.Subtrees.{length-subtrees}
+use Rattle.rules.proofs.Least.{least-length}
+use Rattle.rules.proofs.OneLayout.{stored-length, stored-at}
+use Rattle.rules.proofs.Verdicts as verdicts
+use Rattle.images.specs.GrammarImage.{terminalCount, startNonterminal, productionAt}
+use Rattle.images.specs.TokenImage.{tokensOf}
+use Rattle.images.specs.TreeImage.{nodeCount, nodesOf}
+use Rattle.images.proofs.Columns.{columns-kept}
+use Rattle.images.proofs.Lists.{length-nodes}
+use Rattle.judge.specs.Judged.{tests, firstRefusal, Fitting, DerivesIn, written, Judged}
+use Rattle.judge.proofs.Passed.{all-passed, refusal-below, none-refuses}
+
+-- two outcomes that the contract allows are equal
+pub one-judged : {grammar tokens tree oldSets oldIndentations : List ℕ} {a b : Answer} {xs ys is js : List ℕ} →
+    Judged grammar tokens tree oldSets oldIndentations a xs is → Judged grammar tokens tree oldSets oldIndentations b ys js → (a ≡ b) × (xs ≡ ys) × (is ≡ js)
+one-judged j k =
+    let same = verdicts.one-verdict _ _ _ _ _ (j .verdict) (k .verdict) in
+    (same .0, j .setsAfter ∙ ap (λ (l : List ℕ). written l _) (same .1) ∙ sym (k .setsAfter), j .indentationsAfter ∙ ap (λ (l : List ℕ). written l _) (same .2) ∙ sym (k .indentationsAfter))
+
+-- an answer 0 or 12 passes over no refusal
+passed-zero : {G : ℕ → Production} {start : ℕ} {ns : List ℕ} {ts : List Token} {refusal a : Answer} {xs is : List ℕ} →
+    Verdict G start ns ts refusal a xs is → a .number ≡ 0 → refusal .number ≡ 0
+passed-zero (refused f) z = absurd (f z)
+passed-zero (empty y d none high sets) z = y
+passed-zero (accepted y d sets l) z = y
+
+passed-twelve : {G : ℕ → Production} {start : ℕ} {ns : List ℕ} {ts : List Token} {refusal a : Answer} {xs is : List ℕ} →
+    Verdict G start ns ts refusal a xs is → refusal .number < 12 → a .number ≡ 12 → refusal .number ≡ 0
+passed-twelve (refused f) below z = absurd (omega arith)
+passed-twelve (empty y d none high sets) below z = y
+passed-twelve (accepted y d sets l) below z = y
+
+-- what is at the head of a list that was written to, and what is behind it
+head-is : (new old : List ℕ) (n : ℕ) → length new ≡ n → take n (written new old) ≡ new
+head-is new old n e = take-at new (drop (length new) old) n e
+
+rest-is : (new old : List ℕ) (n : ℕ) → length new ≡ n → drop n (written new old) ≡ drop n old
+rest-is new old n e = drop-at new (drop (length new) old) n e ∙ ap (λ (m : ℕ). drop m old) e
+
+module _ {grammar tokens tree oldSets oldIndentations : List ℕ} {a : Answer} {newSets newIndentations : List ℕ}
+    (j : Judged grammar tokens tree oldSets oldIndentations a newSets newIndentations) where
+  abbrev first : Answer
+  first = firstRefusal (tests grammar tokens tree (length oldSets) (length oldIndentations))
+
+  abbrev D : ℕ
+  D = nodeCount tree
+
+  abbrev G : ℕ → Production
+  G = productionAt grammar
+
+  below : first .number < 12
+  below = refusal-below grammar tokens tree (length oldSets) (length oldIndentations)
+
+  -- 1 to 11
+  pub refused-unchanged : 1 ≤ a .number → a .number ≤ 11 → (newSets ≡ oldSets) × (newIndentations ≡ oldIndentations)
+  refused-unchanged some few = by (eqb (first .number) 0) refl
+    where
+      by : (b : Bool) → eqb (first .number) 0 ≡ b → (newSets ≡ oldSets) × (newIndentations ≡ oldIndentations)
+      by true t =
+          let twelve = verdicts.twelve _ _ _ _ _ (j .verdict) (eqb-true _ _ t) (λ z. omega arith) in
+          absurd (omega arith)
+      by false t =
+          let same = verdicts.unchanged _ _ _ _ _ (j .verdict) (eqb-false _ _ t) in
+          (rw (j .setsAfter, same .1), rw (j .indentationsAfter, same .2))
+
+  -- 0 and 12: images and room are right, and the nodes derive the tokens within the limit
+  pub zero-passed : a .number ≡ 0 → Fitting grammar tokens tree (length oldSets) (length oldIndentations) × DerivesIn grammar tokens tree
+  zero-passed z = all-passed grammar tokens tree (length oldSets) (length oldIndentations) (passed-zero (j .verdict) z)
+
+  pub twelve-passed : a .number ≡ 12 → Fitting grammar tokens tree (length oldSets) (length oldIndentations) × DerivesIn grammar tokens tree
+  twelve-passed z = all-passed grammar tokens tree (length oldSets) (length oldIndentations) (passed-twelve (j .verdict) below z)
+
+  -- both write the sets: low and high of the set of each node, and nothing behind them
+  module _ (passed : first .number ≡ 0) (d : DerivesIn grammar tokens tree) where
+    stored : StoredSets G (subtrees (d .derives .tree)) (j .sets)
+    stored = verdicts.sets-stored _ _ _ _ _ (j .verdict) passed (d .derives)
+
+    count : length (subtrees (d .derives .tree)) ≡ D
+    count = length-subtrees (d .derives .tree) ∙ ap length (d .derives .listed) ∙ length-nodes tree
+
+    long : length (j .sets) ≡ 2 * D
+    long = omega (arith, count, stored-length G (subtrees (d .derives .tree)) (j .sets) stored)
+
+    sets-say : (n : ℕ) → n < D → Stored (SetOf G (d .derives .tree) n) (getD newSets (2 * n) 0) (getD newSets (2 * n + 1) 0)
+    sets-say n h =
+        let low : getD newSets (2 * n) 0 ≡ getD (j .sets) (2 * n) 0 = rw (j .setsAfter) (List·getD-append (j .sets) _ 0 (2 * n) (omega (arith, long))) in
+        let high : getD newSets (2 * n + 1) 0 ≡ getD (j .sets) (2 * n + 1) 0 = rw (j .setsAfter) (List·getD-append (j .sets) _ 0 (2 * n + 1) (omega (arith, long))) in
+        rw (low, high) (stored-at G (subtrees (d .derives .tree)) (j .sets) stored n (d .derives .tree) (omega (arith, count)))
+
+    sets-rest : drop (2 * D) newSets ≡ drop (2 * D) oldSets
+    sets-rest = rw (j .setsAfter) (rest-is (j .sets) oldSets (2 * D) long)
+
+  pub sets-written : (a .number ≡ 0) ⊎ (a .number ≡ 12) → (d : DerivesIn grammar tokens tree) →
+      ((n : ℕ) → n < D → Stored (SetOf G (d .derives .tree) n) (getD newSets (2 * n) 0) (getD newSets (2 * n + 1) 0)) × (drop (2 * D) newSets ≡ drop (2 * D) oldSets)
+  sets-written e d =
+      let passed : first .number ≡ 0 = ⊎-elim (passed-zero (j .verdict)) (passed-twelve (j .verdict) below) e in
+      (sets-say passed d, sets-rest passed d)
+
+  -- 12: the place is the highest-numbered node with an empty set, and the indentations are left
+  pub twelve-says : a .number ≡ 12 → (newIndentations ≡ oldIndentations) × ((d : DerivesIn grammar tokens tree) → HighestEmpty G (d .derives .tree) (a .place))
+  twelve-says z =
+      let said = verdicts.twelve _ _ _ _ _ (j .verdict) (passed-twelve (j .verdict) below z) (λ y. omega arith) in
+      (rw (j .indentationsAfter, said .1), λ d. said .2 (d .derives))
+
+  module _ (z : a .number ≡ 0) (d : DerivesIn grammar tokens tree) where
+    least : Least G (d .derives .tree) (j .indentations)
+    least =
+        let lays = verdicts.accepted-lays _ _ _ _ _ (j .verdict) z in
+        rw (one-tree G (startNonterminal grammar) (nodesOf tree) (tokensOf tokens) (d .derives) (lays .0)) (lays .1)
+
+    many : length (j .indentations) ≡ D
+    many = least-length G (d .derives .tree) (j .indentations) least ∙ ap length (d .derives .listed) ∙ length-nodes tree
+
+    -- 0: the indentations are the least choice, and nothing behind them changes
+    pub zero-least : Least G (d .derives .tree) (take D newIndentations) × (drop D newIndentations ≡ drop D oldIndentations)
+    zero-least = (
+      rw (j .indentationsAfter, head-is (j .indentations) oldIndentations D many) least,
+      rw (j .indentationsAfter) (rest-is (j .indentations) oldIndentations D many),
+    )
+
+  -- images, room and derivation are right, and all relations can hold: accepted
+  pub chosen-zero : Fitting grammar tokens tree (length oldSets) (length oldIndentations) → (d : DerivesIn grammar tokens tree) (C : Choice) → Laid G (d .derives .tree) C → a ≡ answer 0 0
+  chosen-zero f d = verdicts.chosen-accepted _ _ _ _ _ (j .verdict) (none-refuses grammar tokens tree _ _ f d) (d .derives)
+
+  -- accepted: so it is
+  pub zero-chosen : a .number ≡ 0 → Fitting grammar tokens tree (length oldSets) (length oldIndentations) × (d : DerivesIn grammar tokens tree) × (C : Choice) × Laid G (d .derives .tree) C
+  zero-chosen z =
+      let both = zero-passed z in
+      let l = least z (both .1) in
+      (both .0, both .1, l .choice, l .laid)
+
+  -- refused although it derives: no choice exists
+  pub refused-unlaid : Fitting grammar tokens tree (length oldSets) (length oldIndentations) → (d : DerivesIn grammar tokens tree) → (a .number ≡ 0 → ⊥) → (C : Choice) → Laid G (d .derives .tree) C → ⊥
+  refused-unlaid f d other = verdicts.none-chosen _ _ _ _ _ (j .verdict) (none-refuses grammar tokens tree _ _ f d) other (d .derives)
+
+  -- no indentation is above the limit
+  pub zero-small : a .number ≡ 0 → (n : ℕ) → n < D → getD newIndentations n 0 ≤ maxIndentation
+  zero-small z n h =
+      let both = zero-passed z in
+      let d = both .1 in
+      let columns = columns-kept (terminalCount grammar) tokens (both .0 .tokensFormed) in
+      let deep : (e : Derives G (startNonterminal grammar) (nodesOf tree) (tokensOf tokens)) → depth (e .tree) ≤ maxDepth = λ e. rw (one-tree G (startNonterminal grammar) (nodesOf tree) (tokensOf tokens) e (d .derives)) (d .deep) in
+      rw (j .indentationsAfter, List·getD-append (j .indentations) _ 0 n (omega (arith, many z d))) (verdicts.small _ _ _ _ _ (j .verdict) maxColumn maxDepth columns deep n)
