@@ -2,6 +2,7 @@
 pub mod HighestEmpty
 pub mod IndentationPass
 pub mod LeastNumbers
+pub mod Promised
 pub mod Rows
 pub mod SetPass
 pub mod Standing

@@ -1,15 +1,17 @@
 // Images built field by field. A field is two bytes, low byte first; a symbol's kind and relation
 // are one field here, the kind in the low byte and the relation in the high byte.
 
-const TERMINAL: u16 = 0;
+pub const TERMINAL: u16 = 0;
 
-const NONTERMINAL: u16 = 1;
+pub const NONTERMINAL: u16 = 1;
 
-const EQUAL: u16 = 0;
+pub const EQUAL: u16 = 0;
 
-const GREATER: u16 = 256;
+pub const GREATER: u16 = 256;
 
-const AT_LEAST: u16 = 512;
+pub const AT_LEAST: u16 = 512;
+
+pub const FREE: u16 = 768;
 
 // The grammar image of the trial sheets: header, productions, symbols.
 pub const GRAMMAR: [u16; 42] = [
@@ -111,4 +113,12 @@ pub fn productions(image: &mut [u8]) {
         put(image, at + 2, 4 * p);
         put(image, at + 4, 4);
     }
+}
+
+// The grammar image of the trial sheets with this start nonterminal.
+pub fn trial_grammar(start: u16) -> [u8; 84] {
+    let mut image = [0u8; 84];
+    lay(&mut image, &GRAMMAR);
+    put(&mut image, 4, start);
+    image
 }

@@ -1,10 +1,11 @@
-// The derivation of sheets of a day and many hours without items: each hour reaches one level
-// deeper than the one before, and 253 reach depth 256.
+// The derivation and the check of sheets of a day and many hours without items: each hour reaches one
+// level deeper than the one before, and 253 reach depth 256.
 use crate::build::fill;
 use crate::build::put;
 use crate::build::put_all;
-use crate::derivation::SHEET;
-use crate::derivation::by_trial_grammar;
+use crate::tried::CHECK;
+use crate::tried::SHEET;
+use crate::tried::by_trial_grammar;
 
 // The token image: day at column 1, then so many hours at column 3.
 fn lay_tokens(image: &mut [u8], hours: u8) {
@@ -30,22 +31,27 @@ fn lay_tree(image: &mut [u8], hours: u8) {
 
 // So many hours, with some fields of the token image and of the tree image changed: bytes and
 // values in turn.
-fn sheet(label: &[u8], hours: u8, token_changes: &[u16], tree_changes: &[u16]) {
+fn sheet(label: &[u8], what: u8, hours: u8, token_changes: &[u16], tree_changes: &[u16]) {
     let mut tokens = [0u8; 1030];
     lay_tokens(&mut tokens, hours);
     put_all(&mut tokens, token_changes);
     let mut tree = [0u8; 1540];
     lay_tree(&mut tree, hours);
     put_all(&mut tree, tree_changes);
-    by_trial_grammar(label, SHEET, &tokens, &tree);
+    by_trial_grammar(label, what, SHEET, &tokens, &tree);
 }
 
 // Node 762, at byte 1,530, is the first at depth 257. Token 254, at byte 1,022, is the last hour.
-pub fn sheets() {
-    sheet(b"253 hours", 253, &[], &[]);
-    sheet(b"254 hours", 254, &[], &[]);
-    sheet(b"255 hours", 255, &[], &[]);
-    sheet(b"254 hours, 762 nodes", 254, &[], &[0, 762, 4, 1530]);
-    sheet(b"254 hours, node 762 of Hours", 254, &[], &[1530, 2]);
-    sheet(b"254 hours, 254 tokens", 254, &[0, 254, 4, 1022], &[]);
+pub fn sheets(what: u8) {
+    sheet(b"253 hours", what, 253, &[], &[]);
+    sheet(b"254 hours", what, 254, &[], &[]);
+    sheet(b"255 hours", what, 255, &[], &[]);
+    sheet(b"254 hours, 762 nodes", what, 254, &[], &[0, 762, 4, 1530]);
+    sheet(b"254 hours, node 762 of Hours", what, 254, &[], &[1530, 2]);
+    sheet(b"254 hours, 254 tokens", what, 254, &[0, 254, 4, 1022], &[]);
+}
+
+// Hour 253 is token 253, its column at byte 1,020; node 754 is the list from hour 252 on.
+pub fn columns() {
+    sheet(b"253 hours, last at 4", CHECK, 253, &[1020, 4], &[]);
 }

@@ -37,6 +37,20 @@ pub fn bytes(image: &[u8], length: usize) {
     }
 }
 
+// An entry of a list of sets or of indentations.
+fn entry(value: u32) {
+    number(value as usize);
+}
+
+// The entries from number a up to number b.
+pub fn entries(list: &[u32], a: usize, b: usize) {
+    for i in a..b {
+        if i < list.len() {
+            entry(list[i]);
+        }
+    }
+}
+
 pub fn end() {
     text(b"\n");
 }
