@@ -44,7 +44,7 @@ module _ (grammar tree : List ℕ) where
   abbrev NodeDone : ℕ → ℕ → List ℕ → List ℕ → List ℕ → ℕ → Type 0
   NodeDone n i sets old new next = (ts : List Token) (k : ℕ) (T : Tree) → TreeListed grammar tree ts n k T → NodeGiven grammar T n i sets old new next
 
-  abbrev RowDone : List Symbol → ℕ → ℕ → List ℕ → List ℕ → List ℕ → ℕ → Type 0
+  abbrev pub RowDone : List Symbol → ℕ → ℕ → List ℕ → List ℕ → List ℕ → ℕ → Type 0
   RowDone ss n i sets old new next = (ts : List Token) (k : ℕ) (R : Row) → RowListed grammar tree ts ss n k R → RowGiven grammar R ss n i sets old new next
 
   -- where a tree stands, its node is one of the tree image

@@ -52,30 +52,30 @@ pub fn node(
 }
 
 // Gives the nodes of a row their least numbers below a node with the number i: those of the symbols
-// from entry y up to `end`, from node n on. Returns the node that comes next.
+// from entry `first` up to `end`, from node n on. Returns the node that comes next.
 fn row(
     grammar: &[u8],
     tree: &[u8],
     sets: &[u32],
     indentations: &mut [u32],
-    y: u32,
+    first: u32,
     end: u32,
     n: u16,
     i: u32,
 ) -> u16
-    requires stands { ⌜ SomeRowListed (now grammar) (now tree) (symbols (now grammar) y end) n ⌝ }
+    requires stands { ⌜ SomeRowListed (now grammar) (now tree) (symbols (now grammar) first end) n ⌝ }
     requires sets { ⌜ 2 * nodeCount (now tree) ≤ length (now sets) ⌝ }
     requires room { ⌜ nodeCount (now tree) ≤ length (now indentations) ⌝ }
-    ensures { λ r. ⌜ ((ts : List Token) (k : ℕ) (R : Row) → RowListed (now (grammar .entry)) (now (tree .entry)) ts (symbols (now (grammar .entry)) y end) n k R → RowGiven (now (grammar .entry)) R (symbols (now (grammar .entry)) y end) n i (now (sets .entry)) (now (indentations .entry)) (now (indentations .exit)) r) ⌝ }
+    ensures { λ r. ⌜ ((ts : List Token) (k : ℕ) (R : Row) → RowListed (now (grammar .entry)) (now (tree .entry)) ts (symbols (now (grammar .entry)) first end) n k R → RowGiven (now (grammar .entry)) R (symbols (now (grammar .entry)) first end) n i (now (sets .entry)) (now (indentations .entry)) (now (indentations .exit)) r) ⌝ }
 {
-    if y >= end {
-        return n;
+    let mut next = n;
+    for y in first..end {
+        let symbol = symbol_at(grammar, y);
+        if symbol.kind == 0 {
+            continue;
+        }
+        let j = least(symbol.relation, i, set_at(sets, next));
+        next = node(grammar, tree, sets, indentations, next, j);
     }
-    let symbol = symbol_at(grammar, y);
-    if symbol.kind == 0 {
-        return row(grammar, tree, sets, indentations, y + 1, end, n, i);
-    }
-    let j = least(symbol.relation, i, set_at(sets, n));
-    let next = node(grammar, tree, sets, indentations, n, j);
-    row(grammar, tree, sets, indentations, y + 1, end, next, i)
+    next
 }

@@ -13,7 +13,8 @@ ghost use mathlib.Core.Path.{_≡_};
 ghost use mathlib.Core.List.{[], _∷_};
 ghost use Prim.Native.Nat.{ℕ, _+_, _*_, _≤_};
 ghost use lib.ListN.{length};
-ghost use Rattle.rules.specs.Interval.{highestEmpty};
+ghost use Rattle.rules.specs.Stored.{unbounded};
+ghost use Rattle.rules.specs.Interval.{allSet, highestEmpty};
 ghost use Rattle.rules.specs.Tree.{Tree, Row};
 ghost use Rattle.images.specs.TreeImage.{nodeCount};
 ghost use Rattle.layout.specs.Standing.{symbols, TreeIn, RowIn, SomeTree, SomeRow};
@@ -45,54 +46,48 @@ pub fn node(grammar: &[u8], tokens: &[u8], tree: &[u8], sets: &mut [u32], n: u16
     let production = production_at(grammar, node_at(tree, n));
     let first = production.first as u32;
     let end = first + (production.count as u32);
-    let passed = row(grammar, tokens, tree, sets, first, end, all(), n + 1, k);
+    let passed = row(grammar, tokens, tree, sets, first, end, n + 1, k);
     store(sets, n, passed.set);
     passed
 }
 
-// What the symbols from entry y up to `end` leave of a set, in a row that begins at node n and token
-// k. The sets of its nodes are written.
+// What the symbols from entry `first` up to `end` leave of all whole numbers, in a row that begins at
+// node n and token k. The sets of its nodes are written.
 fn row(
     grammar: &[u8],
     tokens: &[u8],
     tree: &[u8],
     sets: &mut [u32],
-    y: u32,
+    first: u32,
     end: u32,
-    set: Set,
     n: u16,
     k: u16,
 ) -> Passed
-    requires stands { ⌜ SomeRow (now grammar) (now tokens) (now tree) (symbols (now grammar) y end) n k ⌝ }
+    requires stands { ⌜ SomeRow (now grammar) (now tokens) (now tree) (symbols (now grammar) first end) n k ⌝ }
     requires room { ⌜ 2 * nodeCount (now tree) ≤ length (now sets) ⌝ }
-    ensures { λ r. ⌜ ((R : Row) → RowIn (now (grammar .entry)) (now (tokens .entry)) (now (tree .entry)) (symbols (now (grammar .entry)) y end) n k R → RowPassed (now (grammar .entry)) R (symbols (now (grammar .entry)) y end) set n k (now (sets .entry)) (now (sets .exit)) r) ⌝ }
+    ensures { λ r. ⌜ ((R : Row) → RowIn (now (grammar .entry)) (now (tokens .entry)) (now (tree .entry)) (symbols (now (grammar .entry)) first end) n k R → RowPassed (now (grammar .entry)) R (symbols (now (grammar .entry)) first end) (allSet unbounded) n k (now (sets .entry)) (now (sets .exit)) r) ⌝ }
 {
-    if y >= end {
-        return Passed {
-            set: set,
-            node: n,
-            token: k,
-        };
+    let mut left = all();
+    let mut next_node = n;
+    let mut next_token = k;
+    for y in first..end {
+        let symbol = symbol_at(grammar, y);
+        if symbol.kind == 0 {
+            let token = token_at(tokens, next_token);
+            left = meet(left, token_leaves(symbol.relation, token.column));
+            next_token = next_token + 1;
+            continue;
+        }
+        let child = node(grammar, tokens, tree, sets, next_node, next_token);
+        left = meet(left, child_leaves(symbol.relation, child.set));
+        next_node = child.node;
+        next_token = child.token;
     }
-    let symbol = symbol_at(grammar, y);
-    if symbol.kind == 0 {
-        let token = token_at(tokens, k);
-        let left = meet(set, token_leaves(symbol.relation, token.column));
-        return row(grammar, tokens, tree, sets, y + 1, end, left, n, k + 1);
+    Passed {
+        set: left,
+        node: next_node,
+        token: next_token,
     }
-    let child = node(grammar, tokens, tree, sets, n, k);
-    let left = meet(set, child_leaves(symbol.relation, child.set));
-    row(
-        grammar,
-        tokens,
-        tree,
-        sets,
-        y + 1,
-        end,
-        left,
-        child.node,
-        child.token,
-    )
 }
 
 // The highest-numbered of the first `count` nodes whose set is empty, or 0 where none is.

@@ -1,15 +1,22 @@
--- The cycle of calls {node, row}. A node's row begins at the next node and has fewer symbols than 65,537, a row's child at the row's own node, and the rest of a row at no node before it with one symbol less.
--- So the nodes that remain fall, and in a row the symbols that remain, with one more for a row.
+-- The cycle of calls {node, row}. A node's row begins at the next node, and a row's children at the row's own node or behind it, so twice the nodes that remain falls, with one more for a row.
+-- Each turn of a row takes one symbol off, and whatever the symbols that are left give is what the whole row gives.
 use borrow.Author.Needs.{needs}
-use mathlib.Core.Path.{refl, ap, _∙_}
-use Prim.Native.Nat.{ℕ, _<_, _+_, _*_, _-_}
+use mathlib.Core.Path.{_≡_, refl, ap, _∙_}
+use mathlib.Core.List.{List}
+use lib.ListN.{length}
+use Prim.Native.Nat.{ℕ, _<_, _≤_, _+_, _*_, _-_}
 use native.Mathlib.Omega.{arith}
+use Rattle.rules.specs.Tree.{Row}
+use Rattle.rules.specs.Stored.{unbounded}
+use Rattle.rules.specs.Interval.{allSet, meet}
+use Rattle.images.specs.TreeImage.{nodeCount}
 use Rattle.images.proofs.Lists.{length-nodes}
+use Rattle.layout.specs.Standing.{symbols, RowIn, SomeRow}
+use Rattle.layout.specs.Passes.{RowPassed}
+use Rattle.layout.specs.declared.sets.Passed.{Passed}
 use Rattle.layout.proofs.Rows.{count-fits}
 use Rattle.layout.proofs.Standing.{node-within}
 use Rattle.layout.proofs.SetPass.{row-behind, node-passed, row-end-passed, token-within, row-after-token, token-passed, tree-here, next-behind, row-after-child, child-passed}
-use Rattle.rules.specs.Interval.{meet}
-use Rattle.images.specs.TreeImage.{nodeCount}
 use denote.Ref.{now}
 use borrow.Fn.Kinds.{In}
 use borrow.Fn.PlainCycle.{Measures, is, falls, and}
@@ -32,10 +39,10 @@ use Rattle.layout.proofs.sets.+node+row.{statement}
 use Rattle.layout.proofs.sets.+node+row.Tie.{close}
 
 abbrev μ-node : Measures 4 node-kinds.ps ℕ
-μ-node κs a = 65537 * (nodeCount (now (a .1 .1 .0)) - a .1 .1 .1 .1 .0)
+μ-node κs a = 2 * (nodeCount (now (a .1 .1 .0)) - a .1 .1 .1 .1 .0)
 
 abbrev μ-row : Measures 4 row-kinds.ps ℕ
-μ-row κs a = 65537 * (nodeCount (now (a .1 .1 .0)) - a .1 .1 .1 .1 .1 .1 .1 .0) + (a .1 .1 .1 .1 .1 .0 - a .1 .1 .1 .1 .0) + 1
+μ-row κs a = 2 * (nodeCount (now (a .1 .1 .0)) - a .1 .1 .1 .1 .1 .1 .0) + 1
 
 -- what each is given at the measure t, and what a call of it asks below t
 abbrev node-at : ℕ → In 4 node-kinds.ps
@@ -50,13 +57,25 @@ row-at t = and 4 row-kinds.ps (is 4 row-kinds.ps μ-row t) row.Pre
 abbrev row-below : ℕ → In 4 row-kinds.ps
 row-below t = and 4 row-kinds.ps (falls 4 row-kinds.ps _<_ μ-row t) row.Pre
 
+-- the symbols from y on are left
+abbrev row-Inv-loop : row-lts.InvT-loop
+row-Inv-loop grammar tokens tree sets₀ first end n k left₀ next-node₀ next-token₀ y₀ sets left next-node next-token y =
+    (n ≤ next-node)
+    × (length sets ≡ length sets₀)
+    × SomeRow grammar tokens tree (symbols grammar y end) next-node next-token
+    × ((final : List ℕ) (r : Passed) → ((R : Row) → RowIn grammar tokens tree (symbols grammar y end) next-node next-token R → RowPassed grammar R (symbols grammar y end) left next-node next-token sets final r) →
+    (R : Row) → RowIn grammar tokens tree (symbols grammar first end) n k R → RowPassed grammar R (symbols grammar first end) (allSet unbounded) n k sets₀ final r)
+
+abbrev row-μ-loop : row-lts.MeasureT-loop
+row-μ-loop grammar tokens tree sets₀ first end n k left₀ next-node₀ next-token₀ y₀ sets left next-node next-token y = end - y
+
 module _ (t : ℕ) where
   -- what the calls in each ask and ensure
   abbrev node-claims : node-lts.Claims
-  node-claims = (node-at-reads.Asked, node-at-reads.Learnt, production-at-reads.Asked, production-at-reads.Learnt, all-reads.Asked, all-reads.Learnt, row-below t, row.Post, store-reads.Asked, store-reads.Learnt)
+  node-claims = (node-at-reads.Asked, node-at-reads.Learnt, production-at-reads.Asked, production-at-reads.Learnt, row-below t, row.Post, store-reads.Asked, store-reads.Learnt)
 
   abbrev row-claims : row-lts.Claims
-  row-claims = (symbol-at-reads.Asked, symbol-at-reads.Learnt, token-at-reads.Asked, token-at-reads.Learnt, token-leaves-reads.Asked, token-leaves-reads.Learnt, meet-reads.Asked, meet-reads.Learnt, row-below t, row.Post, node-below t, node.Post, child-leaves-reads.Asked, child-leaves-reads.Learnt)
+  row-claims = (all-reads.Asked, all-reads.Learnt, symbol-at-reads.Asked, symbol-at-reads.Learnt, token-at-reads.Asked, token-at-reads.Learnt, token-leaves-reads.Asked, token-leaves-reads.Learnt, meet-reads.Asked, meet-reads.Learnt, node-below t, node.Post, child-leaves-reads.Asked, child-leaves-reads.Learnt)
 
   -- node n is there, and its number fits 16 bits
   within : (c : node-lts.After-shared-slice-known3 node-claims (node-at t) node.Post) →
@@ -82,23 +101,17 @@ module _ (t : ℕ) where
   node-add-end : node-lts.Need-add-end node-claims (node-at t) node.Post
   node-add-end c = search needs
 
-  node-all-requires : node-lts.Need-all-requires node-claims (node-at t) node.Post
-  node-all-requires c κs = search needs
-
   node-add-row : node-lts.Need-add-row node-claims (node-at t) node.Post
-  node-add-row c =
-      let s = c .before .before .before .before .before .before .before in
-      omega (arith, within s)
+  node-add-row c = omega (arith, within (c .before .before .before .before .before .before))
 
   node-row-requires : node-lts.Need-row-requires node-claims (node-at t) node.Post
   node-row-requires c κs =
-      let s = c .before .before .before .before .before .before .before in
-      let here = c .before .before .before .before in
-      (omega (arith, within s), (row-behind _ _ _ (c .before .before .before .before .before .node-at .ensures) (here .production-at .ensures) (omega arith) (omega arith) (s .before .before .before .pre .1 .0), omega arith))
+      let s = c .before .before .before .before .before .before in
+      (omega (arith, within s), (row-behind _ _ _ (c .before .before .before .before .node-at .ensures) (c .before .before .before .production-at .ensures) (omega arith) (omega arith) (s .before .before .before .pre .1 .0), omega arith))
 
   node-store-requires : node-lts.Need-store-requires node-claims (node-at t) node.Post
   node-store-requires c κs =
-      let s = c .before .before .before .before .before .before .before .before .before .before .before in
+      let s = c .before .before .before .before .before .before .before .before .before .before in
       omega (arith, within s, c .before .before .before .row .kept .1 .1 .1 .0, s .before .before .before .pre .1 .1)
 
   node-same-length : node-lts.Need-same-length node-claims (node-at t) node.Post
@@ -106,83 +119,87 @@ module _ (t : ℕ) where
 
   node-returns : node-lts.Need-returns node-claims (node-at t) node.Post
   node-returns c =
-      let s = c .before .before .before .before .before .before .before .before .before .before .before .before .before .before in
-      let here = c .before .before .before .before .before .before .before .before .before .before .before in
-      let below = c .before .before .before .before .before .before in
-      node-passed _ _ _ (c .before .before .before .before .before .before .before .before .before .before .before .before .node-at .ensures) (here .production-at .ensures) (omega arith) (omega arith) (below .before .all .ensures) (s .before .before .before .pre .1 .1) (below .row .ensures) (c .before .before .store .ensures)
+      let s = c .before .before .before .before .before .before .before .before .before .before .before .before .before in
+      node-passed _ _ _ (c .before .before .before .before .before .before .before .before .before .before .before .node-at .ensures) (c .before .before .before .before .before .before .before .before .before .before .production-at .ensures) (omega arith) (omega arith) refl (s .before .before .before .pre .1 .1) (c .before .before .before .before .before .before .row .ensures) (c .before .before .store .ensures)
 
-  row-returns : row-lts.Need-returns row-claims (row-at t) row.Post
-  row-returns c = row-end-passed _ _ _ (omega arith) refl refl refl
+  row-all-requires : row-lts.Need-all-requires row-claims (row-at t) row.Post row-Inv-loop row-μ-loop
+  row-all-requires c κs = search needs
 
-  row-symbol-at-requires : row-lts.Need-symbol-at-requires row-claims (row-at t) row.Post
+  row-loop-holds : row-lts.Need-loop-holds row-claims (row-at t) row.Post row-Inv-loop row-μ-loop
+  row-loop-holds c = (omega arith, refl, c .before .before .before .before .before .pre .1 .0, λ final r rest. rw (← c .all .ensures) rest)
+
+  row-symbol-at-requires : row-lts.Need-symbol-at-requires row-claims (row-at t) row.Post row-Inv-loop row-μ-loop
   row-symbol-at-requires c κs = search needs
 
-  row-token-at-requires : row-lts.Need-token-at-requires row-claims (row-at t) row.Post
+  row-token-at-requires : row-lts.Need-token-at-requires row-claims (row-at t) row.Post row-Inv-loop row-μ-loop
   row-token-at-requires c κs = search needs
 
-  row-token-leaves-requires : row-lts.Need-token-leaves-requires row-claims (row-at t) row.Post
+  row-token-leaves-requires : row-lts.Need-token-leaves-requires row-claims (row-at t) row.Post row-Inv-loop row-μ-loop
   row-token-leaves-requires c κs = search needs
 
-  row-meet-requires : row-lts.Need-meet-requires row-claims (row-at t) row.Post
+  row-meet-requires : row-lts.Need-meet-requires row-claims (row-at t) row.Post row-Inv-loop row-μ-loop
   row-meet-requires c κs = search needs
 
-  row-add-row : row-lts.Need-add-row row-claims (row-at t) row.Post
-  row-add-row c = search needs
-
-  row-add-row-2 : row-lts.Need-add-row-2 row-claims (row-at t) row.Post
-  row-add-row-2 c =
-      let s = c .before .before .before .before .before .before .before .before .before .before in
+  row-add-next-token : row-lts.Need-add-next-token row-claims (row-at t) row.Post row-Inv-loop row-μ-loop
+  row-add-next-token c =
+      let s = c .before .before .before .before .before .before .before .before .before .before .before in
       let start = s .before .before in
-      omega (arith, token-within _ _ _ (c .before .before .before .before .before .before .before .if1 .left) (c .before .before .before .before .before .before .symbol-at .ensures) (c .before .before .before .before .if2 .taken) (start .pre .1 .0), count-fits (now (start .args .tokens)) (λ b. omega (arith, s .shared-slice-known2 .given b)))
+      omega (arith, token-within _ _ _ (c .before .before .before .before .before .before .loop-test .taken) (c .before .before .before .before .before .symbol-at .ensures) (c .before .before .before .if1 .taken) (c .before .before .before .before .before .before .before .loop .inv .2), count-fits (now (start .args .tokens)) (λ b. omega (arith, s .shared-slice-known2 .given b)))
 
-  row-row-requires : row-lts.Need-row-requires row-claims (row-at t) row.Post
-  row-row-requires c κs =
-      let symbol = c .before .before .before .before .before .before in
-      let s = c .before .before .before .before .before .before .before .before .before in
-      (omega (arith, c .before .before .before .before .before .before .before .if1 .left), (row-after-token _ _ _ (c .before .before .before .before .before .before .before .if1 .left) (symbol .symbol-at .ensures) (c .before .before .before .before .if2 .taken) (s .before .before .before .pre .1 .0), s .before .before .before .pre .1 .1))
+  row-add-y : row-lts.Need-add-y row-claims (row-at t) row.Post row-Inv-loop row-μ-loop
+  row-add-y c = omega arith
 
-  row-same-length : row-lts.Need-same-length row-claims (row-at t) row.Post
-  row-same-length c = search needs
+  row-loop-less : row-lts.Need-loop-less row-claims (row-at t) row.Post row-Inv-loop row-μ-loop
+  row-loop-less c = omega arith
 
-  row-returns-2 : row-lts.Need-returns-2 row-claims (row-at t) row.Post
-  row-returns-2 c =
-      let symbol = c .before .before .before .before .before .before .before .before .before in
-      let left = c .before .before .before .before in
-      token-passed _ _ _ (symbol .before .if1 .left) (symbol .symbol-at .ensures) (c .before .before .before .before .before .before .before .if2 .taken) (c .before .before .before .before .before .before .token-at .ensures) (left .meet .ensures ∙ ap (meet _) (left .before .token-leaves .ensures)) (c .before .before .row .ensures)
+  row-loop-again : row-lts.Need-loop-again row-claims (row-at t) row.Post row-Inv-loop row-μ-loop
+  row-loop-again c =
+      let inv = c .before .before .before .before .before .before .before .loop .inv in
+      let more = c .before .before .before .before .before .before .loop-test .taken in
+      let read = c .before .before .before .before .before .symbol-at .ensures in
+      let terminal = c .before .before .before .if1 .taken in (
+        inv .0,
+        inv .1,
+        row-after-token _ _ _ more read terminal (inv .2),
+        λ final r rest. inv .3 final r (token-passed _ _ _ more read terminal (c .before .before .token-at .ensures) (c .meet .ensures ∙ ap (meet _) (c .before .token-leaves .ensures)) rest),
+      )
 
-  row-node-requires : row-lts.Need-node-requires row-claims (row-at t) row.Post
+  row-node-requires : row-lts.Need-node-requires row-claims (row-at t) row.Post row-Inv-loop row-μ-loop
   row-node-requires c κs =
-      let symbol = c .before .before .before in
-      let start = c .before .before .before .before .before .before .before .before .before in
-      (omega arith, (tree-here _ _ _ (symbol .before .if1 .left) (symbol .symbol-at .ensures) (c .before .if2 .left) (start .pre .1 .0), start .pre .1 .1))
+      let inv = c .before .before .before .before .before .loop .inv in
+      (omega (arith, inv .0, c .before .before .before .before .before .before .before .before .before .before .before .pre .0), (tree-here _ _ _ (c .before .before .before .before .loop-test .taken) (c .before .before .before .symbol-at .ensures) (c .before .if1 .left) (inv .2), omega (arith, inv .1, c .before .before .before .before .before .before .before .before .before .before .before .pre .1 .1)))
 
-  row-child-leaves-requires : row-lts.Need-child-leaves-requires row-claims (row-at t) row.Post
+  row-child-leaves-requires : row-lts.Need-child-leaves-requires row-claims (row-at t) row.Post row-Inv-loop row-μ-loop
   row-child-leaves-requires c κs = search needs
 
-  row-meet-requires-2 : row-lts.Need-meet-requires-2 row-claims (row-at t) row.Post
+  row-meet-requires-2 : row-lts.Need-meet-requires-2 row-claims (row-at t) row.Post row-Inv-loop row-μ-loop
   row-meet-requires-2 c κs = search needs
 
-  row-add-row-3 : row-lts.Need-add-row-3 row-claims (row-at t) row.Post
-  row-add-row-3 c = omega (arith, c .before .before .before .before .before .before .before .before .before .before .if1 .left, c .before .before .before .before .before .before .before .before .before .before .before .before .before .before .before .fits .end)
+  row-add-y-2 : row-lts.Need-add-y-2 row-claims (row-at t) row.Post row-Inv-loop row-μ-loop
+  row-add-y-2 c = omega (arith, c .before .before .before .before .before .before .before .before .before .loop-test .taken, c .before .before .before .before .before .before .before .before .before .before .before .before .before .before .before .before .fits .end)
 
-  row-row-requires-2 : row-lts.Need-row-requires-2 row-claims (row-at t) row.Post
-  row-row-requires-2 c κs =
-      let symbol = c .before .before .before .before .before .before .before .before .before in
-      let start = c .before .before .before .before .before .before .before .before .before .before .before .before .before .before .before in
-      let child = c .before .before .before .before .before .node in
-      let more = symbol .before .if1 .left in
-      let read = symbol .symbol-at .ensures in
-      let other = c .before .before .before .before .before .before .before .if2 .left in
-      (omega (arith, more, next-behind _ _ _ more read other (child .ensures) (start .pre .1 .0), start .pre .0), (row-after-child _ _ _ more read other (child .ensures) (start .pre .1 .0), omega (arith, child .kept .1 .1 .1 .0, start .pre .1 .1)))
+  row-loop-less-2 : row-lts.Need-loop-less-2 row-claims (row-at t) row.Post row-Inv-loop row-μ-loop
+  row-loop-less-2 c = omega arith
 
-  row-same-length-2 : row-lts.Need-same-length-2 row-claims (row-at t) row.Post
-  row-same-length-2 c = search needs
+  row-loop-again-2 : row-lts.Need-loop-again-2 row-claims (row-at t) row.Post row-Inv-loop row-μ-loop
+  row-loop-again-2 c =
+      let inv = c .before .before .before .before .before .before .before .before .before .before .loop .inv in
+      let more = c .before .before .before .before .before .before .before .before .before .loop-test .taken in
+      let read = c .before .before .before .before .before .before .before .before .symbol-at .ensures in
+      let other = c .before .before .before .before .before .before .if1 .left in
+      let child = c .before .before .before .before .node in
+      let room : 2 * nodeCount (now (c .before .before .before .before .before .before .before .before .before .before .before .before .before .before .before .before .args .tree)) ≤ length (c .before .before .before .before .before .before .before .before .before .before .loop .sets) = omega (arith, inv .1, c .before .before .before .before .before .before .before .before .before .before .before .before .before .before .before .before .pre .1 .1) in (
+        omega (arith, inv .0, next-behind _ _ _ more read other (child .ensures) (inv .2)),
+        omega (arith, inv .1, child .kept .1 .1 .1 .0),
+        row-after-child _ _ _ more read other (child .ensures) (inv .2),
+        λ final r rest. inv .3 final r (child-passed _ _ _ more read other (child .ensures) room (c .meet2 .ensures ∙ ap (meet _) (c .before .child-leaves .ensures)) rest),
+      )
 
-  row-returns-3 : row-lts.Need-returns-3 row-claims (row-at t) row.Post
-  row-returns-3 c =
-      let symbol = c .before .before .before .before .before .before .before .before .before .before .before .before in
-      let left = c .before .before .before .before in
-      child-passed _ _ _ (symbol .before .if1 .left) (symbol .symbol-at .ensures) (c .before .before .before .before .before .before .before .before .before .before .if2 .left) (c .before .before .before .before .before .before .before .before .node .ensures) (c .before .before .before .before .before .before .before .before .before .before .before .before .before .before .before .before .before .before .pre .1 .1) (left .meet2 .ensures ∙ ap (meet _) (left .before .child-leaves .ensures)) (c .before .before .row2 .ensures)
+  row-same-length : row-lts.Need-same-length row-claims (row-at t) row.Post row-Inv-loop row-μ-loop
+  row-same-length c = c .before .loop .inv .1
+
+  row-returns : row-lts.Need-returns row-claims (row-at t) row.Post row-Inv-loop row-μ-loop
+  row-returns c = c .before .loop .inv .3 _ _ (row-end-passed _ _ _ (omega arith) refl refl refl)
 
 pub +node+row-spec : {M : Type 1} → statement M
 +node+row-spec = close μ-node μ-row (λ t. node-lts.spec (node-claims t)
@@ -193,7 +210,6 @@ pub +node+row-spec : {M : Type 1} → statement M
     (node-cast-first t)
     (node-cast-end t)
     (node-add-end t)
-    (node-all-requires t)
     (node-add-row t)
     (node-row-requires t)
     (node-store-requires t)
@@ -202,20 +218,23 @@ pub +node+row-spec : {M : Type 1} → statement M
     λ t. row-lts.spec (row-claims t)
     (row-at t)
     row.Post
-    (row-returns t)
+    row-Inv-loop
+    row-μ-loop
+    (row-all-requires t)
+    (row-loop-holds t)
     (row-symbol-at-requires t)
     (row-token-at-requires t)
     (row-token-leaves-requires t)
     (row-meet-requires t)
-    (row-add-row t)
-    (row-add-row-2 t)
-    (row-row-requires t)
-    (row-same-length t)
-    (row-returns-2 t)
+    (row-add-next-token t)
+    (row-add-y t)
+    (row-loop-less t)
+    (row-loop-again t)
     (row-node-requires t)
     (row-child-leaves-requires t)
     (row-meet-requires-2 t)
-    (row-add-row-3 t)
-    (row-row-requires-2 t)
-    (row-same-length-2 t)
-    (row-returns-3 t)
+    (row-add-y-2 t)
+    (row-loop-less-2 t)
+    (row-loop-again-2 t)
+    (row-same-length t)
+    (row-returns t)
