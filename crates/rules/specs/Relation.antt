@@ -7,7 +7,7 @@ use Rattle.rules.specs.Grammar.{Token}
 unfoldable pub Holds : ℕ → ℕ → ℕ → Type 0
 Holds r i j = (r ≡ 0 → j ≡ i) × (r ≡ 1 → i < j) × (r ≡ 2 → i ≤ j)
 
--- at most so much does a relation put a child above the least number that its parent and its own set ask for
+-- the most that a relation asks a child to stand above its parent
 abbrev pub rise : ℕ
 rise = 1
 

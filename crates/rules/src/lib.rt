@@ -1,4 +1,4 @@
-// The limits of document 01, each under its name.
+// The limits of document 01, each under its name, and the relation step.
 pub mod relation;
 
 // Terminals of a grammar.

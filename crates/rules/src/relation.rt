@@ -1,5 +1,5 @@
 // The relation step: what a child leaves its parent, and the least that a parent leaves its child.
-// Nothing outside this file looks at a relation's number.
+// But for the field rule of the grammar image, no other code looks at a relation's number.
 ghost use mathlib.Core.Path.{_≡_};
 ghost use Prim.Native.Nat.{max, min};
 ghost use Rattle.rules.specs.Stored.{unbounded};
