@@ -20,8 +20,7 @@ use Rattle.images.specs.TreeImage.{nodeCount, nodesOf, treeFields}
 use Rattle.packers.specs.declared.Packed.{Packed}
 use Rattle.packers.specs.declared.Packed.the-variants.{Written}
 use Rattle.packers.specs.Answers.{packedNumber}
-use Rattle.packers.specs.Packing.{treeImage, tokenImage, written, TreePacked, TokensPacked}
-use Rattle.packers.proofs.Refused.{refusal-writes-nothing}
+use Rattle.packers.specs.Packing.{treeImage, tokenImage, TreePacked, TokensPacked}
 use Rattle.packers.proofs.RoundTrip.{terminalOf, columnOf, tree-reads-back, tokens-read-back, tree-is-packed, tokens-are-packed}
 use Rattle.judge.specs.Judged.{Fitting, DerivesIn, Judged}
 use Rattle.judge.proofs.Meaning as meaning
@@ -32,8 +31,11 @@ pub one-outcome : {grammar tokens tree oldSets oldIndentations : List ℕ} {a b 
 one-outcome = meaning.one-judged
 
 -- "a packer that refuses writes nothing"
-pub packer-leaves : (r : Packed) → (packedNumber r ≡ 0 → ⊥) → (image out : List ℕ) → written r image out ≡ out
-packer-leaves = refusal-writes-nothing
+pub tree-packer-leaves : (productions out : List ℕ) (r : Packed) (after : List ℕ) → TreePacked productions out r after → (packedNumber r ≡ 0 → ⊥) → after ≡ out
+tree-packer-leaves = meaning.tree-packer-leaves
+
+pub tokens-packer-leaves : (terminals columns out : List ℕ) (r : Packed) (after : List ℕ) → TokensPacked terminals columns out r after → (packedNumber r ≡ 0 → ⊥) → after ≡ out
+tokens-packer-leaves = meaning.tokens-packer-leaves
 
 -- 2. "By lemma 4 of document 000 a set that is not empty is all whole numbers, a single number, or all numbers up to some n"
 pub set-shape : (G : ℕ → Production) (T : Tree) (A : ℕ) → Right G T A → Shape (InSet G T)
@@ -65,12 +67,12 @@ module _ {grammar tokens tree oldSets oldIndentations : List ℕ} {a : Answer} {
   refusals-leave = meaning.refused-unchanged j
 
   -- "12 writes the sets and leaves the indentations", at the "highest-numbered node with an empty set"
-  pub twelve-leaves : a .number ≡ 12 → (newIndentations ≡ oldIndentations) × ((d : DerivesIn grammar tokens tree) → HighestEmpty (productionAt grammar) (d .derives .tree) (a .place))
+  pub twelve-leaves : a .number ≡ 12 → (newIndentations ≡ oldIndentations) × (d : DerivesIn grammar tokens tree) × HighestEmpty (productionAt grammar) (d .derives .tree) (a .place)
   twelve-leaves = meaning.twelve-says j
 
   -- 2. every entry of the sets says the set of its node, and "Entries beyond those named never change"
-  pub sets-say : (a .number ≡ 0) ⊎ (a .number ≡ 12) → (d : DerivesIn grammar tokens tree) →
-      ((n : ℕ) → n < nodeCount tree → Stored (SetOf (productionAt grammar) (d .derives .tree) n) (getD newSets (2 * n) 0) (getD newSets (2 * n + 1) 0))
+  pub sets-say : (a .number ≡ 0) ⊎ (a .number ≡ 12) → (d : DerivesIn grammar tokens tree)
+      × ((n : ℕ) → n < nodeCount tree → Stored (SetOf (productionAt grammar) (d .derives .tree) n) (getD newSets (2 * n) 0) (getD newSets (2 * n + 1) 0))
       × (drop (2 * nodeCount tree) newSets ≡ drop (2 * nodeCount tree) oldSets)
   sets-say = meaning.sets-written j
 

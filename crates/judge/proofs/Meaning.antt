@@ -26,6 +26,10 @@ use Rattle.images.specs.TokenImage.{tokensOf}
 use Rattle.images.specs.TreeImage.{nodeCount, nodesOf}
 use Rattle.images.proofs.Columns.{columns-kept}
 use Rattle.images.proofs.Lists.{length-nodes}
+use Rattle.packers.specs.declared.Packed.{Packed}
+use Rattle.packers.specs.Answers.{packedNumber}
+use Rattle.packers.specs.Packing.{treeImage, tokenImage, TreePacked, TokensPacked}
+use Rattle.packers.proofs.Refused.{refusal-writes-nothing}
 use Rattle.judge.specs.Judged.{tests, firstRefusal, Fitting, DerivesIn, written, Judged}
 use Rattle.judge.proofs.Passed.{all-passed, refusal-below, none-refuses}
 
@@ -35,6 +39,13 @@ pub one-judged : {grammar tokens tree oldSets oldIndentations : List ℕ} {a b :
 one-judged j k =
     let same = verdicts.one-verdict _ _ _ _ _ (j .verdict) (k .verdict) in
     (same .0, j .setsAfter ∙ ap (λ (l : List ℕ). written l _) (same .1) ∙ sym (k .setsAfter), j .indentationsAfter ∙ ap (λ (l : List ℕ). written l _) (same .2) ∙ sym (k .indentationsAfter))
+
+-- a packer that refuses leaves the output as it was
+pub tree-packer-leaves : (productions out : List ℕ) (r : Packed) (after : List ℕ) → TreePacked productions out r after → (packedNumber r ≡ 0 → ⊥) → after ≡ out
+tree-packer-leaves productions out r after packed some = packed .output ∙ refusal-writes-nothing r some (treeImage productions) out
+
+pub tokens-packer-leaves : (terminals columns out : List ℕ) (r : Packed) (after : List ℕ) → TokensPacked terminals columns out r after → (packedNumber r ≡ 0 → ⊥) → after ≡ out
+tokens-packer-leaves terminals columns out r after packed some = packed .output ∙ refusal-writes-nothing r some (tokenImage terminals columns) out
 
 -- an answer 0 or 12 passes over no refusal
 passed-zero : {G : ℕ → Production} {start : ℕ} {ns : List ℕ} {ts : List Token} {refusal a : Answer} {xs is : List ℕ} →
@@ -82,12 +93,9 @@ module _ {grammar tokens tree oldSets oldIndentations : List ℕ} {a : Answer} {
           let same = verdicts.unchanged _ _ _ _ _ (j .verdict) (eqb-false _ _ t) in
           (rw (j .setsAfter, same .1), rw (j .indentationsAfter, same .2))
 
-  -- 0 and 12: images and room are right, and the nodes derive the tokens within the limit
+  -- 0: images and room are right, and the nodes derive the tokens within the limit
   pub zero-passed : a .number ≡ 0 → Fitting grammar tokens tree (length oldSets) (length oldIndentations) × DerivesIn grammar tokens tree
   zero-passed z = all-passed grammar tokens tree (length oldSets) (length oldIndentations) (passed-zero (j .verdict) z)
-
-  pub twelve-passed : a .number ≡ 12 → Fitting grammar tokens tree (length oldSets) (length oldIndentations) × DerivesIn grammar tokens tree
-  twelve-passed z = all-passed grammar tokens tree (length oldSets) (length oldIndentations) (passed-twelve (j .verdict) below z)
 
   -- both write the sets: low and high of the set of each node, and nothing behind them
   module _ (passed : first .number ≡ 0) (d : DerivesIn grammar tokens tree) where
@@ -109,17 +117,20 @@ module _ {grammar tokens tree oldSets oldIndentations : List ℕ} {a : Answer} {
     sets-rest : drop (2 * D) newSets ≡ drop (2 * D) oldSets
     sets-rest = rw (j .setsAfter) (rest-is (j .sets) oldSets (2 * D) long)
 
-  pub sets-written : (a .number ≡ 0) ⊎ (a .number ≡ 12) → (d : DerivesIn grammar tokens tree) →
-      ((n : ℕ) → n < D → Stored (SetOf G (d .derives .tree) n) (getD newSets (2 * n) 0) (getD newSets (2 * n + 1) 0)) × (drop (2 * D) newSets ≡ drop (2 * D) oldSets)
-  sets-written e d =
+  pub sets-written : (a .number ≡ 0) ⊎ (a .number ≡ 12) → (d : DerivesIn grammar tokens tree)
+      × ((n : ℕ) → n < D → Stored (SetOf G (d .derives .tree) n) (getD newSets (2 * n) 0) (getD newSets (2 * n + 1) 0)) × (drop (2 * D) newSets ≡ drop (2 * D) oldSets)
+  sets-written e =
       let passed : first .number ≡ 0 = ⊎-elim (passed-zero (j .verdict)) (passed-twelve (j .verdict) below) e in
-      (sets-say passed d, sets-rest passed d)
+      let d = all-passed grammar tokens tree (length oldSets) (length oldIndentations) passed .1 in
+      (d, sets-say passed d, sets-rest passed d)
 
   -- 12: the place is the highest-numbered node with an empty set, and the indentations are left
-  pub twelve-says : a .number ≡ 12 → (newIndentations ≡ oldIndentations) × ((d : DerivesIn grammar tokens tree) → HighestEmpty G (d .derives .tree) (a .place))
+  pub twelve-says : a .number ≡ 12 → (newIndentations ≡ oldIndentations) × (d : DerivesIn grammar tokens tree) × HighestEmpty G (d .derives .tree) (a .place)
   twelve-says z =
-      let said = verdicts.twelve _ _ _ _ _ (j .verdict) (passed-twelve (j .verdict) below z) (λ y. omega arith) in
-      (rw (j .indentationsAfter, said .1), λ d. said .2 (d .derives))
+      let passed = passed-twelve (j .verdict) below z in
+      let said = verdicts.twelve _ _ _ _ _ (j .verdict) passed (λ y. omega arith) in
+      let d = all-passed grammar tokens tree (length oldSets) (length oldIndentations) passed .1 in
+      (rw (j .indentationsAfter, said .1), d, said .2 (d .derives))
 
   module _ (z : a .number ≡ 0) (d : DerivesIn grammar tokens tree) where
     least : Least G (d .derives .tree) (j .indentations)
