@@ -5,7 +5,7 @@ use Prim.Native.Nat.{ℕ, _+_, _<_, _≤_}
 use native.Mathlib.Nat.{add-zero, add-assoc}
 use native.Mathlib.Numerals.{add-one}
 use native.Mathlib.Omega.{arith}
-use lib.ListN.{length, take, drop, length-append, length-take, length-drop, take-append-drop, set}
+use lib.ListN.{length, take, drop, length-append, take-append-drop, set}
 use lib.Seq.{length-take-le, take-at, drop-at, take-take, take-append-le, drop-drop, set-split, sets-eq}
 use Rattle.layout.specs.Passes.{writtenAt}
 
@@ -33,11 +33,6 @@ module _ (at : ℕ) (v w old : List ℕ) where
   written-before room =
       let front : length (take (at + length v) old) ≡ at + length v = length-take-le (at + length v) old room in
       rw (take-append-le at (take (at + length v) old) (w ++ drop (at + length v + length w) old) (omega arith), take-take at (at + length v) old (omega arith), drop-at (take (at + length v) old) (w ++ drop (at + length v + length w) old) (at + length v) front, length-append, append-assoc, add-assoc)
-
--- a list keeps its length
-pub length-written : (at : ℕ) (new old : List ℕ) → at + length new ≤ length old → length (writtenAt at new old) ≡ length old
-unfolding writtenAt
-length-written at new old room = rw (length-append, length-append, length-take, length-drop) (omega arith)
 
 -- two stores one behind the other
 pub written-two : (at a b : ℕ) (old : List ℕ) → at + 2 ≤ length old → set (set old at a) (at + 1) b ≡ writtenAt at (a ∷ b ∷ []) old

@@ -94,10 +94,6 @@ module _ (G : ℕ → Production) (top : ℕ) where
           let g = child-fits top (omega arith) (s .relation) (setOf G top T) (this .fits) in
           child-tells row s ss S _ h T this g (row-tells row ss _ (f .2) (cs .1) (meet-fits top (omega arith) S _ h g))
 
-    -- neither bound of the computed set is above top
-    pub set-fits : (T : Tree) (A : ℕ) → Right G T A → ColumnsUpTo M (tokens T) → Fits top (setOf G top T)
-    set-fits T A f c = set-tells T A f c .fits
-
     -- every choice has a number of the computed set at its root
     pub set-in : (T : Tree) (A : ℕ) → Right G T A → ColumnsUpTo M (tokens T) → (C : Choice) → Laid G T C → In top (setOf G top T) (root C)
     set-in T A f c = set-tells T A f c .up

@@ -27,11 +27,6 @@ mutual
   length-row (token t row) = length-row row
   length-row (child T row) = simp (length-append, length-subtrees T, length-row row)
 
--- the first subtree is the tree itself
-pub root-subtree : (T : Tree) → getD (subtrees T) 0 T ≡ T
-unfolding subtrees
-root-subtree (node p row) = refl
-
 module _ (G : ℕ → Production) where
   abbrev Some : Tree → Type 0
   Some T = (i : ℕ) × InSet G T i
