@@ -1,6 +1,6 @@
 // Fields of an image. A byte past the image's end counts as 0.
 ghost use mathlib.Core.Path.{_≡_};
-ghost use Prim.Native.Nat.{_<_};
+ghost use Prim.Native.Nat.{_+_, _*_, _<_};
 ghost use lib.ListN.{getD};
 ghost use Rattle.images.specs.Fields.{fieldAt};
 
@@ -17,18 +17,23 @@ pub fn byte_at(image: &[u8], at: usize) -> u8
     if at < image.len() { image[at] } else { 0 }
 }
 
+// Two bytes as a field, low byte first.
+pub fn pair(low: u8, high: u8) -> u16
+    ensures { λ r. ⌜ r ≡ low + 256 * high ⌝ }
+{
+    wide(low) + 256 * wide(high)
+}
+
 // The 16 bits at `at`, low byte first.
 pub fn field_at(image: &[u8], at: usize) -> u16
     ensures { λ r. ⌜ r ≡ fieldAt (now (image .entry)) at ⌝ }
 {
-    if at < image.len() {
-        let next = at + 1;
-        if next < image.len() {
-            wide(image[at]) + 256 * wide(image[next])
-        } else {
-            wide(image[at])
+    let length = image.len();
+    if length >= 2 {
+        if at <= length - 2 {
+            let next = at + 1;
+            return pair(image[at], image[next]);
         }
-    } else {
-        0
     }
+    if at < length { wide(image[at]) } else { 0 }
 }

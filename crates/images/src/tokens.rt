@@ -2,12 +2,13 @@
 use crate::Checked;
 use crate::Token;
 use crate::fields::field_at;
+use crate::fields::pair;
 use rules::COLUMN;
 use rules::TOKENS;
 ghost use mathlib.Core.Path.{_≡_};
 ghost use Prim.Native.Nat.{_<_};
 ghost use lib.ListN.{getD};
-ghost use Rattle.images.specs.Fields.{firstFault, nowhere};
+ghost use Rattle.images.specs.Fields.{fieldAt, firstFault, nowhere};
 ghost use Rattle.images.specs.TokenImage.{headerFields, recordFields, recordsFields, tokenFields};
 ghost use Rattle.images.specs.TokenImage.{tokenCount, TokenIs};
 
@@ -18,14 +19,29 @@ pub fn token_count(image: &[u8]) -> u16
     field_at(image, 0)
 }
 
+// The total length that the header says.
+pub fn total_length(image: &[u8]) -> u16
+    ensures { λ r. ⌜ r ≡ fieldAt (now (image .entry)) 4 ⌝ }
+{
+    field_at(image, 4)
+}
+
 // Token k.
 pub fn token_at(image: &[u8], k: u16) -> Token
     ensures { λ r. ⌜ TokenIs (now (image .entry)) k r ⌝ }
 {
-    let at = 6 + 4 * (k as usize);
+    let terminal = 6 + 4 * (k as usize);
+    let column = terminal + 2;
+    let last = column + 1;
+    if last < image.len() {
+        return Token {
+            terminal: pair(image[terminal], image[terminal + 1]),
+            column: pair(image[column], image[last]),
+        };
+    }
     Token {
-        terminal: field_at(image, at),
-        column: field_at(image, at + 2),
+        terminal: field_at(image, terminal),
+        column: field_at(image, column),
     }
 }
 

@@ -1,0 +1,186 @@
+//! What is measured: three images and the answer's number, for each row of the table.
+
+pub struct Row {
+    pub name: String,
+    pub grammar: Vec<u8>,
+    pub tokens: Vec<u8>,
+    pub tree: Vec<u8>,
+    pub number: u8,
+}
+
+/// A symbol of a row: kind, relation, number.
+type Symbol = (u8, u8, u16);
+
+fn fields(values: &[u16]) -> Vec<u8> {
+    values.iter().flat_map(|v| v.to_le_bytes()).collect()
+}
+
+fn grammar(terminals: u16, nonterminals: u16, productions: &[(u16, Vec<Symbol>)]) -> Vec<u8> {
+    let count = productions.len() as u16;
+    let entries: u16 = productions.iter().map(|p| p.1.len() as u16).sum();
+    let symbols = 16 + 6 * count;
+    let mut image = fields(&[
+        terminals,
+        nonterminals,
+        0,
+        count,
+        entries,
+        16,
+        symbols,
+        symbols + 4 * entries,
+    ]);
+    let mut first = 0;
+    for (left, row) in productions {
+        image.extend(fields(&[*left, first, row.len() as u16]));
+        first += row.len() as u16;
+    }
+    for (kind, relation, number) in productions.iter().flat_map(|p| &p.1) {
+        image.extend([*kind, *relation]);
+        image.extend(number.to_le_bytes());
+    }
+    image
+}
+
+fn tokens(list: &[(u16, u16)]) -> Vec<u8> {
+    let count = list.len() as u16;
+    let mut image = fields(&[count, 6, 6 + 4 * count]);
+    list.iter().for_each(|t| image.extend(fields(&[t.0, t.1])));
+    image
+}
+
+fn tree(nodes: &[u16]) -> Vec<u8> {
+    let count = nodes.len() as u16;
+    let mut image = fields(&[count, 6, 6 + 2 * count]);
+    image.extend(fields(nodes));
+    image
+}
+
+/// The trial grammar of document 01.
+fn trial_grammar() -> Vec<u8> {
+    grammar(
+        3,
+        4,
+        &[
+            (0, vec![(0, 0, 0), (1, 1, 1)]),
+            (1, vec![(1, 0, 2), (1, 0, 1)]),
+            (1, vec![]),
+            (2, vec![(0, 0, 1), (1, 1, 3)]),
+            (3, vec![(0, 2, 2), (1, 0, 3)]),
+            (3, vec![]),
+        ],
+    )
+}
+
+/// A day at column 1 and so many hours at column 3 without items.
+pub fn hours(count: usize) -> Row {
+    let mut list = vec![(0, 1)];
+    let mut nodes = vec![0];
+    for _ in 0..count {
+        list.push((1, 3));
+        nodes.extend([1, 3, 5]);
+    }
+    nodes.push(2);
+    Row {
+        name: format!("{count} hours"),
+        grammar: trial_grammar(),
+        tokens: tokens(&list),
+        tree: tree(&nodes),
+        number: 0,
+    }
+}
+
+/// So many nonterminals, each with a row of 8, four tokens and four children by the four relations,
+/// and an empty row; the tree has so many nodes with the row of 8, as shallow as can be.
+fn wide(name: &str, nonterminals: u16, inner: usize) -> Row {
+    let child = |p: u16, k: u16| (p * 4 + k + 1) % nonterminals;
+    let mut productions = Vec::new();
+    for p in 0..nonterminals {
+        let row = (0..4).flat_map(|k| [(0, 2, (p + k) % 1024), (1, k as u8, child(p, k))]);
+        productions.push((p, row.collect()));
+        productions.push((p, Vec::new()));
+    }
+    let mut list = Vec::new();
+    let mut nodes = Vec::new();
+    grow(0, 0, inner, &child, &mut nodes, &mut list);
+    Row {
+        name: name.to_string(),
+        grammar: grammar(1024, nonterminals, &productions),
+        tokens: tokens(&list),
+        tree: tree(&nodes),
+        number: 0,
+    }
+}
+
+/// The subtree of a nonterminal at this place of the tree whose first `inner` nodes, level by level,
+/// have the row of 8.
+fn grow(
+    nonterminal: u16,
+    place: usize,
+    inner: usize,
+    child: &impl Fn(u16, u16) -> u16,
+    nodes: &mut Vec<u16>,
+    list: &mut Vec<(u16, u16)>,
+) {
+    if place >= inner {
+        nodes.push(2 * nonterminal + 1);
+        return;
+    }
+    nodes.push(2 * nonterminal);
+    for k in 0..4 {
+        list.push(((nonterminal + k) % 1024, 100 + (place % 50) as u16));
+        grow(
+            child(nonterminal, k),
+            4 * place + k as usize + 1,
+            inner,
+            child,
+            nodes,
+            list,
+        );
+    }
+}
+
+/// The greatest images: 1,024 productions, 4,096 symbol entries, 4,093 nodes and 4,092 tokens.
+pub fn greatest() -> Row {
+    wide("greatest images", 512, 1023)
+}
+
+/// The same, refused at the number of the last symbol entry.
+pub fn last_entry() -> Row {
+    let mut row = greatest();
+    row.name = "refused at the last symbol entry".to_string();
+    row.number = 1;
+    let at = row.grammar.len() - 2;
+    row.grammar[at..].copy_from_slice(&u16::MAX.to_le_bytes());
+    row
+}
+
+/// A small grammar and a tree of about so many nodes and tokens.
+pub fn growing(nodes: usize) -> Row {
+    let inner = (nodes - 1) / 4;
+    wide(&format!("{} nodes", 4 * inner + 1), 1, inner)
+}
+
+/// A sample of the repository.
+pub fn sample(name: &str, path: &str) -> Row {
+    let read = |part: &str| {
+        std::fs::read(format!("{path}.{part}")).expect("the sample's images are there")
+    };
+    Row {
+        name: name.to_string(),
+        grammar: read("grammar"),
+        tokens: read("tokens"),
+        tree: read("tree"),
+        number: 0,
+    }
+}
+
+pub fn all(samples: &str) -> Vec<Row> {
+    let mut rows = vec![
+        sample("October day of 25 hours", &format!("{samples}/october")),
+        hours(253),
+        greatest(),
+        last_entry(),
+    ];
+    rows.extend([65, 129, 257, 513, 1025, 2049, 4093].map(growing));
+    rows
+}

@@ -1,0 +1,2 @@
+-- How a delivery is cut.
+pub mod Delivery

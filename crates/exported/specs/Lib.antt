@@ -1,0 +1,2 @@
+-- What the exported check gives.
+pub mod Numbered

@@ -1,0 +1,2 @@
+-- What the program of document 01 prints.
+pub mod Text

@@ -1,0 +1,73 @@
+//! Columns for the tokens of a sheet: random, or laid out from a choice, or
+//! laid out and then moved a little.
+
+use super::random::Random;
+use super::sheet::Sheet;
+
+const LAST_COLUMN: usize = 4095;
+
+pub fn lay(random: &mut Random, sheet: &mut Sheet) {
+    match random.below(6) {
+        0 => scatter(random, sheet),
+        1..=3 => lay_out(random, sheet),
+        _ => {
+            lay_out(random, sheet);
+            for _ in 0..random.pick(&[1, 1, 1, 2, 5]) {
+                nudge(random, sheet);
+            }
+        }
+    }
+}
+
+fn scatter(random: &mut Random, sheet: &mut Sheet) {
+    let last = random.pick(&[0, 1, 2, 5, 20, 100, LAST_COLUMN]);
+    for token in &mut sheet.tokens {
+        token.1 = random.within(0, last) as u16;
+    }
+}
+
+/// Gives every node a number by its relation to its parent, and every token a
+/// column by its relation to its node, so that these numbers are a choice
+/// wherever the columns do not run out.
+fn lay_out(random: &mut Random, sheet: &mut Sheet) {
+    let base = match random.below(5) {
+        0 => 0,
+        1 => random.below(10),
+        2 => random.below(3000),
+        3 => random.within(3800, LAST_COLUMN),
+        _ => random.pick(&[1, LAST_COLUMN - 256, LAST_COLUMN - 1, LAST_COLUMN]),
+    };
+    let slack = random.pick(&[0, 0, 1, 3]);
+    let step = |random: &mut Random, relation: u8, i: usize| match relation {
+        0 => i,
+        1 => i + 1 + random.within(0, slack),
+        2 => i + random.within(0, slack),
+        _ => random.within(0, base + slack),
+    };
+    let mut numbers: Vec<usize> = Vec::new();
+    for (node, above) in sheet.above_nodes.iter().enumerate() {
+        let number = match node {
+            0 => base,
+            _ => step(random, above.relation, numbers[above.node]),
+        };
+        numbers.push(number);
+    }
+    for (token, above) in sheet.tokens.iter_mut().zip(&sheet.above_tokens) {
+        let column = step(random, above.relation, numbers[above.node]);
+        token.1 = column.min(LAST_COLUMN) as u16;
+    }
+}
+
+fn nudge(random: &mut Random, sheet: &mut Sheet) {
+    if sheet.tokens.is_empty() {
+        return;
+    }
+    let at = random.below(sheet.tokens.len());
+    let column = &mut sheet.tokens[at].1;
+    *column = match random.below(6) {
+        0 => 0,
+        1 => LAST_COLUMN as u16,
+        2 | 3 => column.saturating_sub(1),
+        _ => (*column + 1).min(LAST_COLUMN as u16),
+    };
+}

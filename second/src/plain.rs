@@ -1,0 +1,90 @@
+//! The check, plain and quick: each image is read once, one walk judges the
+//! derivation, one loop backward gives the sets, one loop forward the
+//! indentations. Nothing is taken from the heap.
+
+mod images;
+mod walk;
+
+use walk::{Note, NO_BOUND};
+
+const MOST_NODES: usize = 4096;
+
+/// Number and place by the table of document 01.
+pub fn check(
+    grammar: &[u8],
+    tokens: &[u8],
+    tree: &[u8],
+    sets: &mut [u32],
+    indentations: &mut [u32],
+) -> (u8, usize) {
+    match judge(grammar, tokens, tree, sets, indentations) {
+        Ok(()) => (0, 0),
+        Err(refusal) => refusal,
+    }
+}
+
+type Refusal = (u8, usize);
+
+fn judge(
+    grammar: &[u8],
+    tokens: &[u8],
+    tree: &[u8],
+    sets: &mut [u32],
+    indentations: &mut [u32],
+) -> Result<(), Refusal> {
+    let grammar = images::grammar(grammar).map_err(|place| (1, place))?;
+    let tokens = images::tokens(tokens, grammar.terminals).map_err(|place| (2, place))?;
+    let nodes = images::nodes(tree, grammar.productions.len()).map_err(|place| (3, place))?;
+    let count = nodes.len();
+    let sets = sets.get_mut(..2 * count).ok_or((4, 2 * count))?;
+    let indentations = indentations.get_mut(..count).ok_or((4, count))?;
+
+    let mut notes = [Note::default(); MOST_NODES];
+    let notes = &mut notes[..count];
+    walk::derive(&grammar, tokens, nodes, notes)?;
+    if let Some(place) = write_sets(notes, sets) {
+        return Err((12, place));
+    }
+    write_indentations(notes, indentations);
+    Ok(())
+}
+
+/// Writes every set and gives the highest-numbered node with an empty one.
+///
+/// Backward, because every child has a higher number than its node: when a
+/// node's turn comes, its note has met all its tokens and all its children.
+fn write_sets(notes: &mut [Note], sets: &mut [u32]) -> Option<usize> {
+    let mut highest_empty = None;
+    for (node, set) in sets.as_chunks_mut::<2>().0.iter_mut().enumerate().rev() {
+        let note = notes[node];
+        let high = match note.high {
+            NO_BOUND => u32::MAX,
+            high => high as u32,
+        };
+        *set = [note.low as u32, high];
+        if note.is_empty() {
+            *set = [1, 0];
+            highest_empty = highest_empty.or(Some(node));
+        }
+        if node > 0 {
+            notes[usize::from(note.above)].meet(note.relation, note.low, note.high);
+        }
+    }
+    highest_empty
+}
+
+/// Gives every node its least number: the lowest of its own set that its
+/// parent's number allows. Sets are intervals, and the parent's number is in
+/// the parent's set, so the lowest allowed number is never above the high.
+fn write_indentations(notes: &[Note], indentations: &mut [u32]) {
+    for (node, note) in notes.iter().enumerate() {
+        let low = note.low as u32;
+        let parent = indentations[usize::from(note.above)];
+        indentations[node] = match note.relation {
+            0 => parent,
+            1 => low.max(parent + 1),
+            2 => low.max(parent),
+            _ => low,
+        };
+    }
+}
