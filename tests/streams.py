@@ -36,6 +36,11 @@ def closed_input(command):
     return run(command, preexec_fn=lambda: os.close(0)) == (b"", UNREADABLE, 0)
 
 
+def write_only(command):
+    with open(os.devnull, "wb") as device:
+        return run(command, stdin=device) == (b"", UNREADABLE, 0)
+
+
 def folder(command):
     with tempfile.TemporaryDirectory() as space:
         descriptor = os.open(space, os.O_RDONLY)
@@ -46,6 +51,11 @@ def folder(command):
 
 def closed_output(command):
     return run(command, input=october(), stdout=None, preexec_fn=lambda: os.close(1)) == (b"", UNWRITABLE, 0)
+
+
+def read_only(command):
+    with open(os.devnull, "rb") as device:
+        return run(command, input=october(), stdout=device) == (b"", UNWRITABLE, 0)
 
 
 def no_room(command):
@@ -84,10 +94,15 @@ def too_long(command):
     return result == (b"3 4\n", b"", 0) and taken == MOST
 
 
-CASES = [
+# Where an emulator runs the program, a closed descriptor's number may be one of the emulator's own.
+NATIVE = [
     ("standard input is closed", closed_input),
-    ("standard input is a folder", folder),
     ("standard output is closed", closed_output),
+]
+CASES = [
+    ("standard input is not open for reading", write_only),
+    ("standard input is a folder", folder),
+    ("standard output is not open for writing", read_only),
     ("standard output has no room", no_room),
     ("nobody reads standard output", nobody_reads),
     ("standard input comes in pieces", in_pieces),
@@ -96,12 +111,14 @@ CASES = [
 
 
 def main():
+    command = sys.argv[1:]
+    cases = CASES if len(command) > 1 else NATIVE + CASES
     failed = 0
-    for name, case in CASES:
-        good = case(sys.argv[1:])
+    for name, case in cases:
+        good = case(command)
         failed += not good
         print("ok" if good else "FAILED", name)
-    print(f"streams: {len(CASES) - failed} passed, {failed} failed")
+    print(f"streams: {len(cases) - failed} passed, {failed} failed")
     sys.exit(failed > 0)
 
 

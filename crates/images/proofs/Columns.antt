@@ -1,12 +1,11 @@
 -- In a well-formed token image no column is above the limit: each token's second field keeps that rule.
-use mathlib.Core.Path.{_≡_}
 use mathlib.Core.List.{List}
 use Prim.Native.Nat.{ℕ, zero, suc, _+_, _<_}
 use native.Mathlib.Omega.{arith}
 use borrow.Author.Tests.{leb-true}
 use Rattle.rules.specs.Limits.{maxColumn}
 use Rattle.rules.specs.Grammar.{ColumnsUpTo}
-use Rattle.images.specs.Fields.{Field, WellFormed, listFrom}
+use Rattle.images.specs.Fields.{WellFormed, listFrom}
 use Rattle.images.specs.TokenImage.{tokenCount, tokenAt, tokensOf, headerFields, recordFields, recordsFields, tokenFields}
 use Rattle.images.proofs.Formed.{formed-parts, each-formed}
 

@@ -8,7 +8,8 @@ use native.Mathlib.Omega.{arith}
 use borrow.Author.Tests.{leb-true}
 use lib.ListN.{length}
 use Rattle.rules.specs.Limits.{maxNodes}
-use Rattle.report.specs.Text.{shown, text, fits, printed, Reported, writtenAt, Put}
+use Rattle.report.specs.Putting.{writtenAt, Put}
+use Rattle.report.specs.Text.{shown, text, fits, printed, Reported}
 
 both-true : (a b : Bool) → (a && b) ≡ true → (a ≡ true) × (b ≡ true)
 both-true true b h = (refl, h)

@@ -8,7 +8,8 @@ use native.Mathlib.Omega.{arith}
 use borrow.Author.Tests.{lt-ltb, le-ltb}
 use lib.ListN.{length, drop, set, length-append, take-append-drop, drop-of-length-le}
 use lib.Seq.{take-all, take-append-seam, drop-append-add, drop-drop, set-split}
-use Rattle.report.specs.Text.{digits, writtenAt, Put}
+use Rattle.report.specs.Putting.{writtenAt, Put}
+use Rattle.report.specs.Text.{digits}
 
 -- nothing put
 pub put-none : (at : ℕ) (old : List ℕ) → Put at [] old at old

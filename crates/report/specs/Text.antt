@@ -1,10 +1,10 @@
--- The text of an answer ("It prints number and place"), and what the function that puts it into an output gives back.
+-- The text of an answer ("It prints number and place"), and what the function that puts it into an output gives back. Bytes are numbers; 32 is a space, 10 the end of a line, 45 the sign -.
 use mathlib.Core.Path.{_≡_}
 use mathlib.Core.Bool.{Bool, _&&_, cond}
 use mathlib.Core.List.{List, [], _∷_, _++_}
 use Prim.Native.Nat.{ℕ, zero, suc, _+_, _*_, _%_, _/_}
 use lib.Dec.{leb, ltb, eqb}
-use lib.ListN.{length, getD, take, drop}
+use lib.ListN.{length, getD, drop}
 use Rattle.rules.specs.Limits.{maxNodes}
 use Rattle.rules.specs.Stored.{unbounded}
 
@@ -61,12 +61,3 @@ printed number place nodes sets indentations out =
 pub record Reported (number place nodes : ℕ) (sets indentations out : List ℕ) (r : ℕ) (after : List ℕ) : Type 0 where
   pub result : r ≡ length (printed number place nodes sets indentations out)
   pub output : after ≡ printed number place nodes sets indentations out ++ drop (length (printed number place nodes sets indentations out)) out
-
--- a list with the entries `new` written from index `at` on; all others are as they were
-unfoldable pub writtenAt : ℕ → List ℕ → List ℕ → List ℕ
-writtenAt at new old = take at old ++ (new ++ drop (at + length new) old)
-
--- what a part that puts the bytes `new` at index `at` gives back: the index behind them, and the output
-pub record Put (at : ℕ) (new old : List ℕ) (r : ℕ) (after : List ℕ) : Type 0 where
-  pub next : r ≡ at + length new
-  pub output : after ≡ writtenAt at new old

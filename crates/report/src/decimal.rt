@@ -2,7 +2,8 @@
 ghost use mathlib.Core.List.{[], _∷_, _++_};
 ghost use Prim.Native.Nat.{_+_, _≤_, _<_};
 ghost use lib.ListN.{length};
-ghost use Rattle.report.specs.Text.{digits, decimal, Put};
+ghost use Rattle.report.specs.Putting.{Put};
+ghost use Rattle.report.specs.Text.{digits, decimal};
 
 // One byte.
 pub fn put(byte: u8, out: &mut [u8], at: usize) -> usize

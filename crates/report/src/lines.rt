@@ -5,7 +5,8 @@ use rules::relation::UNBOUNDED;
 ghost use Prim.Native.Nat.{_+_, _*_, _≤_};
 ghost use lib.ListN.{length};
 ghost use Rattle.rules.specs.Limits.{maxNodes};
-ghost use Rattle.report.specs.Text.{upper, spaced, line, lines, Put};
+ghost use Rattle.report.specs.Putting.{Put};
+ghost use Rattle.report.specs.Text.{upper, spaced, line, lines};
 
 // The high of a set, or - for no upper bound, and a space.
 fn put_upper(high: u32, out: &mut [u8], at: usize) -> usize

@@ -4,7 +4,8 @@ use Prim.Native.Nat.{_+_, _*_, _-_, _≤_}
 use native.Mathlib.Omega.{arith}
 use native.Mathlib.Numerals.{add-one}
 use lib.ListN.{length}
-use Rattle.report.specs.Text.{lines, Put}
+use Rattle.report.specs.Putting.{Put}
+use Rattle.report.specs.Text.{lines}
 use Rattle.report.proofs.Putting.{put-none, put-then}
 use Rattle.report.proofs.lines.put_lines.Statement.{statement}
 use Rattle.report.proofs.lines.put_lines.Tie as tie

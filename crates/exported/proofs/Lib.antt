@@ -1,0 +1,2 @@
+-- What is proved of the exported check.
+pub mod Promised
