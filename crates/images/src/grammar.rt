@@ -5,7 +5,6 @@ use crate::Production;
 use crate::Symbol;
 use crate::fields::byte_at;
 use crate::fields::field_at;
-use crate::fields::pair;
 use rules::ENTRIES;
 use rules::NONTERMINALS;
 use rules::PRODUCTIONS;
@@ -44,21 +43,11 @@ pub fn total_length(image: &[u8]) -> u16
 pub fn production_at(image: &[u8], p: u16) -> Production
     ensures { λ r. ⌜ ProductionIs (now (image .entry)) p r ⌝ }
 {
-    let left = 16 + 6 * (p as usize);
-    let first = left + 2;
-    let count = left + 4;
-    let last = count + 1;
-    if last < image.len() {
-        return Production {
-            left: pair(image[left], image[left + 1]),
-            first: pair(image[first], image[first + 1]),
-            count: pair(image[count], image[last]),
-        };
-    }
+    let at = 16 + 6 * (p as usize);
     Production {
-        left: field_at(image, left),
-        first: field_at(image, first),
-        count: field_at(image, count),
+        left: field_at(image, at),
+        first: field_at(image, at + 2),
+        count: field_at(image, at + 4),
     }
 }
 
@@ -67,19 +56,10 @@ pub fn symbol_at(image: &[u8], y: u32) -> Symbol
     ensures { λ r. ⌜ SymbolIs (now (image .entry)) y r ⌝ }
 {
     let at = 16 + 6 * (field_at(image, 6) as usize) + 4 * (y as usize);
-    let number = at + 2;
-    let last = number + 1;
-    if last < image.len() {
-        return Symbol {
-            kind: image[at],
-            relation: image[at + 1],
-            number: pair(image[number], image[last]),
-        };
-    }
     Symbol {
         kind: byte_at(image, at),
         relation: byte_at(image, at + 1),
-        number: field_at(image, number),
+        number: field_at(image, at + 2),
     }
 }
 

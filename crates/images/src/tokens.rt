@@ -2,7 +2,6 @@
 use crate::Checked;
 use crate::Token;
 use crate::fields::field_at;
-use crate::fields::pair;
 use rules::COLUMN;
 use rules::TOKENS;
 ghost use mathlib.Core.Path.{_≡_};
@@ -30,18 +29,10 @@ pub fn total_length(image: &[u8]) -> u16
 pub fn token_at(image: &[u8], k: u16) -> Token
     ensures { λ r. ⌜ TokenIs (now (image .entry)) k r ⌝ }
 {
-    let terminal = 6 + 4 * (k as usize);
-    let column = terminal + 2;
-    let last = column + 1;
-    if last < image.len() {
-        return Token {
-            terminal: pair(image[terminal], image[terminal + 1]),
-            column: pair(image[column], image[last]),
-        };
-    }
+    let at = 6 + 4 * (k as usize);
     Token {
-        terminal: field_at(image, terminal),
-        column: field_at(image, column),
+        terminal: field_at(image, at),
+        column: field_at(image, at + 2),
     }
 }
 

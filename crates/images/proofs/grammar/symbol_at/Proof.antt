@@ -1,6 +1,5 @@
--- `images::grammar::symbol_at` meets its contract: each field is read at its byte, without a test where the whole entry is there.
+-- `images::grammar::symbol_at` meets its contract: each field is read at its byte.
 use borrow.Author.Needs.{needs}
-use Rattle.images.specs.Fields.{fieldAt}
 use Rattle.images.specs.GrammarImage.{symbolAt}
 use Rattle.images.proofs.grammar.symbol_at.Statement.{statement}
 use Rattle.images.proofs.grammar.symbol_at.Tie as tie
@@ -23,34 +22,6 @@ mul-at-2 c = search needs
 add-at-2 : tie.Need-add-at-2
 add-at-2 c = search needs
 
-add-number : tie.Need-add-number
-add-number c = search needs
-
-add-last : tie.Need-add-last
-add-last c = search needs
-
-shared-slice-read-t14 : tie.Need-shared-slice-read-t14
-shared-slice-read-t14 c = search needs
-
-add-t15 : tie.Need-add-t15
-add-t15 c = search needs
-
-shared-slice-read-t17 : tie.Need-shared-slice-read-t17
-shared-slice-read-t17 c = search needs
-
-shared-slice-read-pair : tie.Need-shared-slice-read-pair
-shared-slice-read-pair c = search needs
-
-shared-slice-read-pair-2 : tie.Need-shared-slice-read-pair-2
-shared-slice-read-pair-2 c = search needs
-
-pair-requires : tie.Need-pair-requires
-pair-requires c κs = search needs
-
-returns : tie.Need-returns
-unfolding symbolAt fieldAt
-returns c = record { kind = (cc); relation = (cc); number = (cc) }
-
 byte-at-requires : tie.Need-byte-at-requires
 byte-at-requires c κs = search needs
 
@@ -60,12 +31,15 @@ add-byte-at c = search needs
 byte-at-requires-2 : tie.Need-byte-at-requires-2
 byte-at-requires-2 c κs = search needs
 
+add-field-at : tie.Need-add-field-at
+add-field-at c = search needs
+
 field-at-requires-2 : tie.Need-field-at-requires-2
 field-at-requires-2 c κs = search needs
 
-returns-2 : tie.Need-returns-2
+returns : tie.Need-returns
 unfolding symbolAt
-returns-2 c = record { kind = (cc); relation = (cc); number = (cc) }
+returns c = record { kind = (cc); relation = (cc); number = (cc) }
 
 pub symbol-at-spec : {M : Type 1} → statement M
 symbol-at-spec =
@@ -77,17 +51,9 @@ symbol-at-spec =
     add-at
     mul-at-2
     add-at-2
-    add-number
-    add-last
-    shared-slice-read-t14
-    add-t15
-    shared-slice-read-t17
-    shared-slice-read-pair
-    shared-slice-read-pair-2
-    pair-requires
-    returns
     byte-at-requires
     add-byte-at
     byte-at-requires-2
+    add-field-at
     field-at-requires-2
-    returns-2)
+    returns)
