@@ -7,13 +7,13 @@ use borrow.Author.Tests.{leb-true, eqb-true}
 use lib.ListN.{length, take, drop, take-append-drop, length-append, List·getD-append}
 use lib.Seq.{take-at, drop-at}
 use Rattle.rules.specs.Limits.{maxProductions, maxEntries, maxTokens, maxNodes}
-use Rattle.images.specs.Fields.{fieldAt, WellFormed}
-use Rattle.images.specs.GrammarImage.{productionCount, entryCount, countFields, offsetFields, productionsFields, symbolsFields, grammarFields}
-use Rattle.images.specs.TokenImage.{tokenCount, tokenFields}
-use Rattle.images.specs.TokenImage.{headerFields as tokenHeader, recordsFields as tokenRecords}
-use Rattle.images.specs.TreeImage.{nodeCount, treeFields}
-use Rattle.images.specs.TreeImage.{headerFields as treeHeader, recordsFields as treeRecords}
-use Rattle.images.proofs.Formed.{formed-parts}
+use Rattle.fields.specs.Fields.{fieldAt, WellFormed}
+use Rattle.grammar_image.specs.GrammarImage.{productionCount, entryCount, countFields, offsetFields, productionsFields, symbolsFields, grammarFields}
+use Rattle.token_image.specs.TokenImage.{tokenCount, tokenFields}
+use Rattle.token_image.specs.TokenImage.{headerFields as tokenHeader, recordsFields as tokenRecords}
+use Rattle.tree_image.specs.TreeImage.{nodeCount, treeFields}
+use Rattle.tree_image.specs.TreeImage.{headerFields as treeHeader, recordsFields as treeRecords}
+use Rattle.fields.proofs.Formed.{formed-parts}
 use Rattle.delivery.specs.Delivery.{imageLength, grammarLength, tokenLength, grammarIn, afterGrammar, tokensIn, treeIn}
 use Rattle.delivery.proofs.Lengths.{said}
 

@@ -4,7 +4,7 @@ use mathlib.Core.List.{List}
 use Prim.Native.Nat.{ℕ, min}
 use lib.Dec.{ltb}
 use lib.ListN.{length, take, drop}
-use Rattle.images.specs.Fields.{fieldAt}
+use Rattle.fields.specs.Fields.{fieldAt}
 
 -- "cut by their total-length field, or take all that remains where fewer bytes remain or the header is short":
 -- how many of the bytes that are there an image takes, by the length of its header and what its total-length field says

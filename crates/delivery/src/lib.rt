@@ -1,6 +1,4 @@
 // A delivery: grammar, token and tree image one after another, as the program reads them.
-use images::grammar;
-use images::tokens;
 use judge::Answer;
 use judge::check;
 ghost use mathlib.Core.Path.{_≡_};
@@ -36,7 +34,7 @@ fn grammar_length(delivery: &[u8]) -> usize
     image_length(
         delivery.len(),
         GRAMMAR_HEADER,
-        grammar::total_length(delivery),
+        grammar_image::total_length(delivery),
     )
 }
 
@@ -45,7 +43,7 @@ fn token_length(rest: &[u8]) -> usize
     ensures { λ r. ⌜ r ≡ tokenLength (now (rest .entry)) ⌝ }
     ensures { λ r. ⌜ r ≤ length (now (rest .entry)) ⌝ }
 {
-    image_length(rest.len(), TOKEN_HEADER, tokens::total_length(rest))
+    image_length(rest.len(), TOKEN_HEADER, token_image::total_length(rest))
 }
 
 // The grammar image of a delivery.

@@ -8,9 +8,9 @@ use Rattle.rules.specs.Limits.{maxDepth}
 use Rattle.rules.specs.Derivation.{DerivesWithin}
 use Rattle.rules.specs.Walk.{Answer}
 use Rattle.rules.proofs.Refusals.{derived, derives-answered}
-use Rattle.images.specs.GrammarImage.{productionAt, startNonterminal}
-use Rattle.images.specs.TokenImage.{tokensOf}
-use Rattle.images.specs.TreeImage.{nodesOf}
+use Rattle.grammar_image.specs.GrammarImage.{productionAt, startNonterminal}
+use Rattle.token_image.specs.TokenImage.{tokensOf}
+use Rattle.tree_image.specs.TreeImage.{nodesOf}
 use Rattle.derive.specs.declared.Refusal.the-variants.{WrongNode, NodesEnd, WrongToken, TokensEnd, TooDeep, NodesRemain, TokensRemain}
 use Rattle.derive.specs.declared.Derivation.{Derivation}
 use Rattle.derive.specs.declared.Derivation.the-variants.{Derived, Refused}

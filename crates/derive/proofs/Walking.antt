@@ -9,19 +9,20 @@ use lib.Dec.{eqb, ltb}
 use Rattle.rules.specs.Grammar.{Symbol, Production, Token}
 use Rattle.rules.specs.Walk.{Walked, used, refused, Answer, answer, andThen, noToken, tokenDue, nodeMet, symbolDue, rowDue, nodeDue, walkDone, walk}
 use Rattle.rules.specs.Limits.{maxDepth}
-use Rattle.images.specs.Fields.{listFrom}
-use Rattle.images.specs.GrammarImage.{leftOf, symbolAt, productionAt, ProductionIs, SymbolIs}
-use Rattle.images.specs.declared.Production.{Production as ProductionRead}
-use Rattle.images.specs.declared.Symbol.{Symbol as SymbolRead}
-use Rattle.images.specs.TokenImage.{tokenCount, tokenAt, tokensOf}
-use Rattle.images.specs.TreeImage.{nodeCount, nodeAt, nodesOf}
+use Rattle.fields.specs.Fields.{listFrom}
+use Rattle.grammar_image.specs.GrammarImage.{leftOf, symbolAt, productionAt, ProductionIs, SymbolIs}
+use Rattle.grammar_image.specs.declared.Production.{Production as ProductionRead}
+use Rattle.grammar_image.specs.declared.Symbol.{Symbol as SymbolRead}
+use Rattle.token_image.specs.TokenImage.{tokenCount, tokenAt, tokensOf}
+use Rattle.tree_image.specs.TreeImage.{nodeCount, nodeAt, nodesOf}
 use Rattle.derive.specs.declared.Refusal.{Refusal}
 use Rattle.derive.specs.declared.walk.Walked.{Walked as WalkedRead}
 use Rattle.derive.specs.declared.walk.Walked.the-variants.{Used, Refused}
 use Rattle.derive.specs.Answers.{refusalAnswer, walkedAs}
 use Rattle.rules.proofs.Steps.{token-missing, token-other, token-meets, node-missing, node-other, node-meets}
-use Rattle.images.proofs.Lists.{length-nodes, length-tokens, node-of, token-of}
-use Rattle.images.proofs.Searching.{tests}
+use Rattle.token_image.proofs.Lists.{length-tokens, token-of}
+use Rattle.tree_image.proofs.Lists.{length-nodes, node-of}
+use Rattle.fields.proofs.Searching.{tests}
 
 -- the terminal a is due
 module _ (image : List ℕ) (a n k : ℕ) where

@@ -3,9 +3,9 @@ use mathlib.Core.List.{List}
 use Prim.Native.Nat.{ℕ}
 use Rattle.rules.specs.Grammar.{Symbol}
 use Rattle.rules.specs.Walk.{Answer, Walked, nodeDue, rowDue, walk}
-use Rattle.images.specs.GrammarImage.{productionAt, startNonterminal}
-use Rattle.images.specs.TokenImage.{tokensOf}
-use Rattle.images.specs.TreeImage.{nodesOf}
+use Rattle.grammar_image.specs.GrammarImage.{productionAt, startNonterminal}
+use Rattle.token_image.specs.TokenImage.{tokensOf}
+use Rattle.tree_image.specs.TreeImage.{nodesOf}
 
 -- a node is due, with so many levels left, that has a nonterminal on its left
 abbrev pub nodeDueIn : List ℕ → List ℕ → List ℕ → ℕ → ℕ → ℕ → ℕ → Walked

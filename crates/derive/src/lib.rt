@@ -4,14 +4,14 @@ mod walk;
 
 use crate::walk::Walked;
 use crate::walk::node;
-use images::grammar::counts_at;
-use images::tokens::token_count;
-use images::tree::node_count;
+use grammar_image::counts_at;
+use token_image::token_count;
+use tree_image::node_count;
 use rules::DEPTH;
 ghost use mathlib.Core.Path.{_≡_};
 ghost use Rattle.rules.specs.Walk.{walkDone, used};
-ghost use Rattle.images.specs.TokenImage.{tokensOf};
-ghost use Rattle.images.specs.TreeImage.{nodesOf};
+ghost use Rattle.token_image.specs.TokenImage.{tokensOf};
+ghost use Rattle.tree_image.specs.TreeImage.{nodesOf};
 ghost use Rattle.derive.specs.Answers.{refusalAnswer, derivationAnswer};
 ghost use Rattle.derive.specs.Images.{walkIn};
 

@@ -1,17 +1,17 @@
 // The walk in preorder: a node function and a row function that call each other.
 // Where n nodes and k tokens are used, node n and token k are next.
 use crate::Refusal;
-use images::grammar::production_at;
-use images::grammar::symbol_at;
-use images::tokens::token_at;
-use images::tokens::token_count;
-use images::tree::node_at;
-use images::tree::node_count;
+use grammar_image::production_at;
+use grammar_image::symbol_at;
+use token_image::token_at;
+use token_image::token_count;
+use tree_image::node_at;
+use tree_image::node_count;
 ghost use mathlib.Core.Path.{_≡_};
 ghost use Rattle.rules.specs.Walk.{tokenDue};
-ghost use Rattle.images.specs.Fields.{listFrom};
-ghost use Rattle.images.specs.GrammarImage.{symbolAt};
-ghost use Rattle.images.specs.TokenImage.{tokensOf};
+ghost use Rattle.fields.specs.Fields.{listFrom};
+ghost use Rattle.grammar_image.specs.GrammarImage.{symbolAt};
+ghost use Rattle.token_image.specs.TokenImage.{tokensOf};
 ghost use Rattle.derive.specs.Answers.{walkedAs};
 ghost use Rattle.derive.specs.Images.{nodeDueIn, rowDueIn};
 

@@ -13,10 +13,10 @@ use Rattle.rules.specs.Choice.{Choice, Laid, InSet, Least}
 use Rattle.rules.specs.Stored.{Stored, SetOf, HighestEmpty, Shape, Empty, subtrees}
 use Rattle.rules.proofs.Shapes.{lemma-4}
 use Rattle.rules.proofs.Subtrees.{empty-above}
-use Rattle.images.specs.Fields.{Bytes, WellFormed}
-use Rattle.images.specs.GrammarImage.{productionAt}
-use Rattle.images.specs.TokenImage.{tokensOf, tokenFields}
-use Rattle.images.specs.TreeImage.{nodeCount, nodesOf, treeFields}
+use Rattle.fields.specs.Fields.{Bytes, WellFormed}
+use Rattle.grammar_image.specs.GrammarImage.{productionAt}
+use Rattle.token_image.specs.TokenImage.{tokensOf, tokenFields}
+use Rattle.tree_image.specs.TreeImage.{nodeCount, nodesOf, treeFields}
 use Rattle.packers.specs.declared.Packed.{Packed}
 use Rattle.packers.specs.declared.Packed.the-variants.{Written}
 use Rattle.packers.specs.Answers.{packedNumber}

@@ -21,11 +21,11 @@ use Rattle.rules.proofs.Subtrees.{length-subtrees}
 use Rattle.rules.proofs.Least.{least-length}
 use Rattle.rules.proofs.OneLayout.{stored-length, stored-at}
 use Rattle.rules.proofs.Verdicts as verdicts
-use Rattle.images.specs.GrammarImage.{terminalCount, startNonterminal, productionAt}
-use Rattle.images.specs.TokenImage.{tokensOf}
-use Rattle.images.specs.TreeImage.{nodeCount, nodesOf}
-use Rattle.images.proofs.Columns.{columns-kept}
-use Rattle.images.proofs.Lists.{length-nodes}
+use Rattle.grammar_image.specs.GrammarImage.{terminalCount, startNonterminal, productionAt}
+use Rattle.token_image.specs.TokenImage.{tokensOf}
+use Rattle.tree_image.specs.TreeImage.{nodeCount, nodesOf}
+use Rattle.token_image.proofs.Columns.{columns-kept}
+use Rattle.tree_image.proofs.Lists.{length-nodes}
 use Rattle.packers.specs.declared.Packed.{Packed}
 use Rattle.packers.specs.Answers.{packedNumber}
 use Rattle.packers.specs.Packing.{treeImage, tokenImage, TreePacked, TokensPacked}

@@ -17,11 +17,11 @@ use Rattle.rules.specs.Verdict.{refused}
 use Rattle.rules.proofs.Least.{least-small}
 use Rattle.rules.proofs.Shapes.{low-near, length-sets}
 use Rattle.rules.proofs.Verdicts.{verdict-empty, verdict-accepted}
-use Rattle.images.specs.GrammarImage.{terminalCount, startNonterminal, productionAt}
-use Rattle.images.specs.TokenImage.{tokensOf}
-use Rattle.images.specs.TreeImage.{nodeCount, nodesOf}
-use Rattle.images.proofs.Columns.{columns-kept}
-use Rattle.images.proofs.Lists.{length-nodes}
+use Rattle.grammar_image.specs.GrammarImage.{terminalCount, startNonterminal, productionAt}
+use Rattle.token_image.specs.TokenImage.{tokensOf}
+use Rattle.tree_image.specs.TreeImage.{nodeCount, nodesOf}
+use Rattle.token_image.proofs.Columns.{columns-kept}
+use Rattle.tree_image.proofs.Lists.{length-nodes}
 use Rattle.layout.specs.Standing.{TreeIn, TreeListed, SomeTree, SomeTreeListed}
 use Rattle.layout.specs.Passes.{writtenAt, NodePassed, AllUpTo, NodeGiven}
 use Rattle.layout.specs.declared.sets.Passed.{Passed}

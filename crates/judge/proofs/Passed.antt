@@ -9,14 +9,14 @@ use lib.Dec.{eqb, ltb}
 use borrow.Author.Tests.{eqb-true, ltb-false, le-ltb}
 use Rattle.rules.specs.Walk.{Answer, answer}
 use Rattle.rules.proofs.Refusals.{answers, derived, derives-answered}
-use Rattle.images.specs.declared.Checked.{Checked}
-use Rattle.images.specs.declared.Checked.the-variants.{Good, Fault}
-use Rattle.images.specs.Answers.{checkedNumber}
-use Rattle.images.specs.Fields.{firstFault}
-use Rattle.images.specs.GrammarImage.{terminalCount, productionCount, startNonterminal, productionAt, grammarFields}
-use Rattle.images.specs.TokenImage.{tokensOf, tokenFields}
-use Rattle.images.specs.TreeImage.{nodeCount, nodesOf, treeFields}
-use Rattle.images.proofs.Promised.{good-well-formed, well-formed-good}
+use Rattle.fields.specs.declared.Checked.{Checked}
+use Rattle.fields.specs.declared.Checked.the-variants.{Good, Fault}
+use Rattle.fields.specs.Answers.{checkedNumber}
+use Rattle.fields.specs.Fields.{firstFault}
+use Rattle.grammar_image.specs.GrammarImage.{terminalCount, productionCount, startNonterminal, productionAt, grammarFields}
+use Rattle.token_image.specs.TokenImage.{tokensOf, tokenFields}
+use Rattle.tree_image.specs.TreeImage.{nodeCount, nodesOf, treeFields}
+use Rattle.fields.proofs.Promised.{good-well-formed, well-formed-good}
 use Rattle.derive.specs.Images.{walkIn}
 use Rattle.judge.specs.Judged.{checked, room, tests, firstRefusal, Fitting, DerivesIn}
 

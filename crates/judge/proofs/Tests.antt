@@ -6,12 +6,12 @@ use Prim.Native.Nat.{ℕ, _*_, _<_, _≤_}
 use lib.Dec.{eqb}
 use borrow.Author.Tests.{lt-ltb, le-ltb}
 use Rattle.rules.specs.Walk.{Answer, answer}
-use Rattle.images.specs.declared.Checked.{Checked}
-use Rattle.images.specs.declared.Checked.the-variants.{Good, Fault}
-use Rattle.images.specs.Fields.{firstFault}
-use Rattle.images.specs.GrammarImage.{terminalCount, productionCount, grammarFields}
-use Rattle.images.specs.TokenImage.{tokenFields}
-use Rattle.images.specs.TreeImage.{nodeCount, treeFields}
+use Rattle.fields.specs.declared.Checked.{Checked}
+use Rattle.fields.specs.declared.Checked.the-variants.{Good, Fault}
+use Rattle.fields.specs.Fields.{firstFault}
+use Rattle.grammar_image.specs.GrammarImage.{terminalCount, productionCount, grammarFields}
+use Rattle.token_image.specs.TokenImage.{tokenFields}
+use Rattle.tree_image.specs.TreeImage.{nodeCount, treeFields}
 use Rattle.derive.specs.declared.Refusal.{Refusal}
 use Rattle.derive.specs.declared.Refusal.the-variants.{WrongNode, NodesEnd, WrongToken, TokensEnd, TooDeep, NodesRemain, TokensRemain}
 use Rattle.derive.specs.Answers.{refusalAnswer}

@@ -9,12 +9,12 @@ use Rattle.rules.specs.Limits.{maxDepth}
 use Rattle.rules.specs.Derivation.{DerivesWithin}
 use Rattle.rules.specs.Walk.{Answer, answer}
 use Rattle.rules.specs.Verdict.{Verdict}
-use Rattle.images.specs.declared.Checked.{Checked}
-use Rattle.images.specs.Answers.{checkedNumber, checkedPlace}
-use Rattle.images.specs.Fields.{WellFormed, firstFault}
-use Rattle.images.specs.GrammarImage.{terminalCount, productionCount, startNonterminal, productionAt, grammarFields}
-use Rattle.images.specs.TokenImage.{tokensOf, tokenFields}
-use Rattle.images.specs.TreeImage.{nodeCount, nodesOf, treeFields}
+use Rattle.fields.specs.declared.Checked.{Checked}
+use Rattle.fields.specs.Answers.{checkedNumber, checkedPlace}
+use Rattle.fields.specs.Fields.{WellFormed, firstFault}
+use Rattle.grammar_image.specs.GrammarImage.{terminalCount, productionCount, startNonterminal, productionAt, grammarFields}
+use Rattle.token_image.specs.TokenImage.{tokensOf, tokenFields}
+use Rattle.tree_image.specs.TreeImage.{nodeCount, nodesOf, treeFields}
 use Rattle.derive.specs.Images.{walkIn}
 use Rattle.judge.specs.declared.Answer.{Answer as AnswerGiven}
 

@@ -2,12 +2,12 @@
 // indentation of every node written to two lent lists.
 use derive::Derivation;
 use derive::derive;
-use images::Checked;
-use images::grammar::check_grammar;
-use images::grammar::counts_at;
-use images::tokens::check_tokens;
-use images::tree::check_tree;
-use images::tree::node_count;
+use fields::Checked;
+use grammar_image::check_grammar;
+use grammar_image::counts_at;
+use token_image::check_tokens;
+use tree_image::check_tree;
+use tree_image::node_count;
 use layout::sets::highest_empty;
 ghost use mathlib.Core.Path.{_≡_};
 ghost use Rattle.judge.specs.Judged.{Judged, given, tests, firstRefusal};

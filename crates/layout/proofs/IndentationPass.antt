@@ -13,11 +13,11 @@ use Rattle.rules.specs.Interval.{setOf, setsOf, rowSets, least, leastChoice, le
 use Rattle.rules.specs.declared.relation.Set.{Set}
 use Rattle.rules.proofs.Lists.{front-met}
 use Rattle.rules.proofs.Shapes.{length-sets}
-use Rattle.images.specs.GrammarImage.{symbolAt, productionAt, ProductionIs, SymbolIs}
-use Rattle.images.specs.declared.Production.{Production as ProductionRead}
-use Rattle.images.specs.declared.Symbol.{Symbol as SymbolRead}
-use Rattle.images.specs.TreeImage.{nodeCount, nodeAt, nodesOf}
-use Rattle.images.proofs.Lists.{length-nodes}
+use Rattle.grammar_image.specs.GrammarImage.{symbolAt, productionAt, ProductionIs, SymbolIs}
+use Rattle.grammar_image.specs.declared.Production.{Production as ProductionRead}
+use Rattle.grammar_image.specs.declared.Symbol.{Symbol as SymbolRead}
+use Rattle.tree_image.specs.TreeImage.{nodeCount, nodeAt, nodesOf}
+use Rattle.tree_image.proofs.Lists.{length-nodes}
 use Rattle.layout.specs.Standing.{symbols, TreeListed, RowListed, SomeTreeListed, SomeRowListed}
 use Rattle.layout.specs.Passes.{AllUpTo, NodeGiven, RowGiven}
 use Rattle.layout.proofs.LeastNumbers.{up-to-append, length-least, root-up-to, set-read}

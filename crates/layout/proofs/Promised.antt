@@ -8,7 +8,7 @@ use Rattle.rules.specs.Tree.{Tree}
 use Rattle.rules.specs.Choice.{flat}
 use Rattle.rules.specs.Stored.{unbounded}
 use Rattle.rules.specs.Interval.{setsOf, leastChoice}
-use Rattle.images.specs.GrammarImage.{productionAt}
+use Rattle.grammar_image.specs.GrammarImage.{productionAt}
 use Rattle.layout.specs.Standing.{TreeIn, TreeListed, SomeTree, SomeTreeListed}
 use Rattle.layout.specs.Passes.{NodePassed, AllUpTo, NodeGiven}
 use Rattle.layout.specs.declared.sets.Passed.{Passed}

@@ -7,12 +7,12 @@ use native.Mathlib.Numerals.{add-one}
 use lib.ListN.{length, getD}
 use Rattle.rules.specs.Grammar.{Symbol, Token}
 use Rattle.rules.specs.Tree.{Row}
-use Rattle.images.specs.Fields.{fieldAt, Bytes, listFrom}
-use Rattle.images.specs.GrammarImage.{symbolAt, productionAt, ProductionIs, SymbolIs}
-use Rattle.images.specs.declared.Production.{Production as ProductionRead}
-use Rattle.images.specs.declared.Symbol.{Symbol as SymbolRead}
-use Rattle.images.specs.TreeImage.{nodeAt, nodesOf}
-use Rattle.images.proofs.Lists.{length-nodes, node-of}
+use Rattle.fields.specs.Fields.{fieldAt, Bytes, listFrom}
+use Rattle.grammar_image.specs.GrammarImage.{symbolAt, productionAt, ProductionIs, SymbolIs}
+use Rattle.grammar_image.specs.declared.Production.{Production as ProductionRead}
+use Rattle.grammar_image.specs.declared.Symbol.{Symbol as SymbolRead}
+use Rattle.tree_image.specs.TreeImage.{nodeAt, nodesOf}
+use Rattle.tree_image.proofs.Lists.{length-nodes, node-of}
 use Rattle.layout.specs.Standing.{symbols, RowListed}
 use Rattle.layout.proofs.Standing.{TokenFirst, token-first, ChildFirst, child-first}
 

@@ -12,13 +12,14 @@ use Rattle.rules.specs.Interval.{allSet, meet, tokenLeaves, childLeaves, setOf,
 use Rattle.rules.specs.declared.relation.Set.{Set}
 use Rattle.rules.specs.Walk.{noToken}
 use Rattle.rules.proofs.Shapes.{length-sets}
-use Rattle.images.specs.GrammarImage.{symbolAt, productionAt, ProductionIs, SymbolIs}
-use Rattle.images.specs.declared.Production.{Production as ProductionRead}
-use Rattle.images.specs.declared.Symbol.{Symbol as SymbolRead}
-use Rattle.images.specs.declared.Token.{Token as TokenRead}
-use Rattle.images.specs.TokenImage.{tokenCount, tokensOf, TokenIs}
-use Rattle.images.specs.TreeImage.{nodeCount, nodeAt, nodesOf}
-use Rattle.images.proofs.Lists.{length-nodes, length-tokens, token-of}
+use Rattle.grammar_image.specs.GrammarImage.{symbolAt, productionAt, ProductionIs, SymbolIs}
+use Rattle.grammar_image.specs.declared.Production.{Production as ProductionRead}
+use Rattle.grammar_image.specs.declared.Symbol.{Symbol as SymbolRead}
+use Rattle.token_image.specs.declared.Token.{Token as TokenRead}
+use Rattle.token_image.specs.TokenImage.{tokenCount, tokensOf, TokenIs}
+use Rattle.tree_image.specs.TreeImage.{nodeCount, nodeAt, nodesOf}
+use Rattle.token_image.proofs.Lists.{length-tokens, token-of}
+use Rattle.tree_image.proofs.Lists.{length-nodes}
 use Rattle.layout.specs.Standing.{symbols, TreeIn, RowIn, SomeTree, SomeRow}
 use Rattle.layout.specs.Passes.{writtenAt, NodePassed, RowPassed}
 use Rattle.layout.specs.declared.sets.Passed.{Passed}

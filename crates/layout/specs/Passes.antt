@@ -10,7 +10,7 @@ use Rattle.rules.specs.Choice.{flat, flats}
 use Rattle.rules.specs.Stored.{unbounded}
 use Rattle.rules.specs.Interval.{setOf, rowSet, setsOf, rowSets, leastChoice, leastChoices}
 use Rattle.rules.specs.declared.relation.Set.{Set}
-use Rattle.images.specs.GrammarImage.{productionAt}
+use Rattle.grammar_image.specs.GrammarImage.{productionAt}
 use Rattle.layout.specs.declared.sets.Passed.{Passed}
 
 -- a list with the entries `new` written from index `at` on; all others are as they were

@@ -6,10 +6,10 @@ use lib.ListN.{drop}
 use Rattle.rules.specs.Grammar.{Symbol, Production, Token}
 use Rattle.rules.specs.Tree.{Tree, Row}
 use Rattle.rules.specs.Derivation.{Right, RightRow, nodes, rowNodes, tokens, rowTokens}
-use Rattle.images.specs.Fields.{listFrom}
-use Rattle.images.specs.GrammarImage.{symbolAt, productionAt}
-use Rattle.images.specs.TokenImage.{tokensOf}
-use Rattle.images.specs.TreeImage.{nodesOf}
+use Rattle.fields.specs.Fields.{listFrom}
+use Rattle.grammar_image.specs.GrammarImage.{symbolAt, productionAt}
+use Rattle.token_image.specs.TokenImage.{tokensOf}
+use Rattle.tree_image.specs.TreeImage.{nodesOf}
 
 -- the symbols from entry y up to entry `to`
 abbrev pub symbols : List ℕ → ℕ → ℕ → List Symbol

@@ -1,8 +1,8 @@
 // The indentation pass: the least number of node n goes to n.
 // A node is given its number before those below it, each the least that its set and its parent allow.
-use images::grammar::production_at;
-use images::grammar::symbol_at;
-use images::tree::node_at;
+use grammar_image::production_at;
+use grammar_image::symbol_at;
+use tree_image::node_at;
 use rules::relation::Set;
 use rules::relation::least;
 ghost use mathlib.Core.Path.{_≡_};
@@ -11,7 +11,7 @@ ghost use Prim.Native.Nat.{ℕ, _+_, _*_, _≤_};
 ghost use lib.ListN.{length, getD, drop};
 ghost use Rattle.rules.specs.Grammar.{Token};
 ghost use Rattle.rules.specs.Tree.{Tree, Row};
-ghost use Rattle.images.specs.TreeImage.{nodeCount};
+ghost use Rattle.tree_image.specs.TreeImage.{nodeCount};
 ghost use Rattle.layout.specs.Standing.{symbols, TreeListed, RowListed, SomeTreeListed, SomeRowListed};
 ghost use Rattle.layout.specs.Passes.{NodeGiven, RowGiven};
 

@@ -1,9 +1,9 @@
 // The set pass: low and high of the set of node n go to 2n and 2n + 1.
 // A node is passed once its row is, so each set is written after those below it.
-use images::grammar::production_at;
-use images::grammar::symbol_at;
-use images::tokens::token_at;
-use images::tree::node_at;
+use grammar_image::production_at;
+use grammar_image::symbol_at;
+use token_image::token_at;
+use tree_image::node_at;
 use rules::relation::Set;
 use rules::relation::all;
 use rules::relation::child_leaves;
@@ -16,7 +16,7 @@ ghost use lib.ListN.{length};
 ghost use Rattle.rules.specs.Stored.{unbounded};
 ghost use Rattle.rules.specs.Interval.{allSet, highestEmpty};
 ghost use Rattle.rules.specs.Tree.{Tree, Row};
-ghost use Rattle.images.specs.TreeImage.{nodeCount};
+ghost use Rattle.tree_image.specs.TreeImage.{nodeCount};
 ghost use Rattle.layout.specs.Standing.{symbols, TreeIn, RowIn, SomeTree, SomeRow};
 ghost use Rattle.layout.specs.Passes.{writtenAt, NodePassed, RowPassed};
 

@@ -11,13 +11,13 @@ use lib.ListN.{length, getD, take, drop, set}
 use lib.Seq.{getD-append-add, take-length}
 use borrow.Author.Tests.{le-leb, lt-leb, eq-eqb, ne-eqb, leb-true, eqb-true}
 use Rattle.rules.specs.Limits.{maxNodes, maxTokens}
-use Rattle.images.specs.Fields.{fieldAt, Bytes, Field, field, WellFormed, firstFault, listFrom, list}
+use Rattle.fields.specs.Fields.{fieldAt, Bytes, Field, field, WellFormed, firstFault, listFrom, list}
 use Rattle.packers.specs.Packing.{bytesOf, inTurn, intoRoom, treeAnswer, columnFields, pastColumns, tokenAnswer}
-use Rattle.images.specs.declared.Checked.{Checked}
-use Rattle.images.specs.declared.Checked.the-variants.{Good, Fault}
+use Rattle.fields.specs.declared.Checked.{Checked}
+use Rattle.fields.specs.declared.Checked.the-variants.{Good, Fault}
 use Rattle.packers.specs.declared.Packed.{Packed}
 use Rattle.packers.specs.declared.Packed.the-variants.{Written, Entries, Column, Room}
-use Rattle.images.proofs.Formed.{both-true}
+use Rattle.fields.proofs.Formed.{both-true}
 
 -- the fields of a tree image, and of a token image
 abbrev pub treeList : List ℕ → List ℕ

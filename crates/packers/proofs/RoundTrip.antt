@@ -9,18 +9,18 @@ use lib.Seq.{take-at}
 use borrow.Author.Tests.{le-leb, lt-ltb, leb-true}
 use Rattle.rules.specs.Limits.{maxNodes, maxTokens}
 use Rattle.rules.specs.Grammar.{Token}
-use Rattle.images.specs.Fields.{fieldAt, Bytes, WellFormed, firstFault, list}
+use Rattle.fields.specs.Fields.{fieldAt, Bytes, WellFormed, firstFault, list}
 use Rattle.packers.specs.Packing.{treeImage, tokenImage, columnFields, written, TreePacked, TokensPacked}
-use Rattle.images.specs.TreeImage.{nodeCount, nodeAt, nodesOf, treeFields}
-use Rattle.images.specs.TreeImage as tree
-use Rattle.images.specs.TokenImage.{tokenCount, tokenAt, tokensOf, tokenFields}
-use Rattle.images.specs.TokenImage as token
-use Rattle.images.specs.declared.Checked.the-variants.{Good}
+use Rattle.tree_image.specs.TreeImage.{nodeCount, nodeAt, nodesOf, treeFields}
+use Rattle.tree_image.specs.TreeImage as tree
+use Rattle.token_image.specs.TokenImage.{tokenCount, tokenAt, tokensOf, tokenFields}
+use Rattle.token_image.specs.TokenImage as token
+use Rattle.fields.specs.declared.Checked.the-variants.{Good}
 use Rattle.packers.specs.declared.Packed.{Packed}
 use Rattle.packers.specs.declared.Packed.the-variants.{Written}
-use Rattle.images.proofs.Formed.{formed-append, formed-parts, formed-each, each-formed}
-use Rattle.images.proofs.Promised.{good-well-formed, well-formed-good}
-use Rattle.images.proofs.Lists.{length-list, getD-list}
+use Rattle.fields.proofs.Formed.{formed-append, formed-parts, formed-each, each-formed}
+use Rattle.fields.proofs.Promised.{good-well-formed, well-formed-good}
+use Rattle.fields.proofs.Lists.{length-list, getD-list}
 use Rattle.packers.proofs.Packing.{treeList, tokenList, Headed, headed-formed, formed-headed, TreeFits, TokensFit, past-header, length-inTurn, terminal-field, column-field, map-list, list-same, list-in-turn, list-getD, length-bytes, fields-back, image-back, tree-written, tokens-written, tree-fits, tokens-fit}
 
 -- of a token, its entry in the one list and in the other

@@ -6,9 +6,9 @@ use Prim.Native.Nat.{ℕ, _+_, _*_, _%_, _/_}
 use lib.Dec.{leb, eqb}
 use lib.ListN.{length, getD, drop}
 use Rattle.rules.specs.Limits.{maxNodes, maxTokens, maxColumn}
-use Rattle.images.specs.Fields.{Field, field, each, firstFault}
-use Rattle.images.specs.declared.Checked.{Checked}
-use Rattle.images.specs.declared.Checked.the-variants.{Good, Fault}
+use Rattle.fields.specs.Fields.{Field, field, each, firstFault}
+use Rattle.fields.specs.declared.Checked.{Checked}
+use Rattle.fields.specs.declared.Checked.the-variants.{Good, Fault}
 use Rattle.packers.specs.declared.Packed.{Packed}
 use Rattle.packers.specs.declared.Packed.the-variants.{Written, Entries, Column, Room}
 

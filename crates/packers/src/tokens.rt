@@ -2,7 +2,7 @@
 use crate::Packed;
 use crate::put;
 use crate::put_header;
-use images::Checked;
+use fields::Checked;
 use rules::COLUMN;
 use rules::TOKENS;
 ghost use mathlib.Core.Path.{_≡_};
@@ -10,7 +10,7 @@ ghost use mathlib.Core.List.{_++_};
 ghost use Prim.Native.Nat.{_+_, _*_, _≤_};
 ghost use lib.ListN.{length, drop};
 ghost use Rattle.rules.specs.Limits.{maxTokens};
-ghost use Rattle.images.specs.Fields.{firstFault};
+ghost use Rattle.fields.specs.Fields.{firstFault};
 ghost use Rattle.packers.specs.Packing.{columnFields, tokenImage, tokenAnswer, TokensPacked};
 
 // The first column above the greatest, by its index.

@@ -3,7 +3,7 @@ mod input;
 
 use delivery::check_delivery;
 use delivery::tree_in;
-use images::tree::node_count;
+use tree_image::node_count;
 use input::Input;
 use libc::STDERR_FILENO;
 use libc::STDOUT_FILENO;

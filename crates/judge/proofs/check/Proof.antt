@@ -6,7 +6,7 @@ use native.Mathlib.Omega.{arith}
 use lib.ListN.{length}
 use denote.Ref.{now}
 use Rattle.rules.specs.Walk.{Answer}
-use Rattle.images.specs.TreeImage.{nodeCount}
+use Rattle.tree_image.specs.TreeImage.{nodeCount}
 use Rattle.judge.specs.Judged.{tests, firstRefusal}
 use Rattle.judge.proofs.Outcomes.{refused-judged, room-for-sets, room-for-indentations, some-tree, some-tree-listed, empty-judged, accepted-judged}
 use Rattle.judge.proofs.check.Statement.{statement}

@@ -3,11 +3,11 @@ use borrow.Author.Needs.{needs}
 use mathlib.Core.Path.{_≡_, sym, ap, _∙_}
 use native.Mathlib.Omega.{arith}
 use denote.Ref.{now}
-use Rattle.images.specs.declared.Checked.the-variants.{Good}
-use Rattle.images.specs.Fields.{firstFault}
-use Rattle.images.specs.GrammarImage.{terminalCount, productionCount, grammarFields}
-use Rattle.images.specs.TokenImage.{tokenFields}
-use Rattle.images.specs.TreeImage.{treeFields}
+use Rattle.fields.specs.declared.Checked.the-variants.{Good}
+use Rattle.fields.specs.Fields.{firstFault}
+use Rattle.grammar_image.specs.GrammarImage.{terminalCount, productionCount, grammarFields}
+use Rattle.token_image.specs.TokenImage.{tokenFields}
+use Rattle.tree_image.specs.TreeImage.{treeFields}
 use Rattle.derive.specs.Answers.{derivationAnswer}
 use Rattle.judge.proofs.Tests.{grammar-refused, tokens-refused, tree-refused, sets-refused, indentations-refused, walk-refused, none-refused}
 use Rattle.judge.proofs.refusal.Statement.{statement}

@@ -6,9 +6,9 @@ use mathlib.Core.Logic.{⊎-elim}
 use Prim.Native.Nat.{ℕ, _<_, _≤_, _+_, _*_, _-_}
 use native.Mathlib.Omega.{arith}
 use Rattle.rules.specs.Walk.{symbolDue}
-use Rattle.images.specs.Fields.{listFrom}
-use Rattle.images.specs.GrammarImage.{symbolAt}
-use Rattle.images.specs.TokenImage.{tokensOf}
+use Rattle.fields.specs.Fields.{listFrom}
+use Rattle.grammar_image.specs.GrammarImage.{symbolAt}
+use Rattle.token_image.specs.TokenImage.{tokensOf}
 use Rattle.derive.specs.Answers.{walkedAs}
 use Rattle.derive.specs.Images.{nodeDueIn, rowDueIn}
 use Rattle.derive.proofs.Walking.{no-node, other-left, too-deep, row-walked, row-refused, row-goes-on, row-used, row-begins, terminal-due, nonterminal-due}
@@ -22,10 +22,10 @@ use Rattle.derive.proofs.walk.row.Reads as row
 use Rattle.derive.proofs.walk.row.Kinds as row-kinds
 use Rattle.derive.proofs.walk.+node+row.Lts-row as row-lts
 use Rattle.derive.proofs.walk.token.Reads as token-reads
-use Rattle.images.proofs.grammar.production_at.Reads as production-at-reads
-use Rattle.images.proofs.grammar.symbol_at.Reads as symbol-at-reads
-use Rattle.images.proofs.tree.node_at.Reads as node-at-reads
-use Rattle.images.proofs.tree.node_count.Reads as node-count-reads
+use Rattle.grammar_image.proofs.production_at.Reads as production-at-reads
+use Rattle.grammar_image.proofs.symbol_at.Reads as symbol-at-reads
+use Rattle.tree_image.proofs.node_at.Reads as node-at-reads
+use Rattle.tree_image.proofs.node_count.Reads as node-count-reads
 use Rattle.derive.proofs.walk.+node+row.{statement}
 use Rattle.derive.proofs.walk.+node+row.Tie.{close}
 

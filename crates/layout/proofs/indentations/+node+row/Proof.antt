@@ -6,7 +6,7 @@ use mathlib.Core.List.{List}
 use Prim.Native.Nat.{ℕ, _<_, _≤_, _+_, _*_, _-_}
 use native.Mathlib.Omega.{arith}
 use lib.ListN.{length, length-set}
-use Rattle.images.specs.TreeImage.{nodeCount}
+use Rattle.tree_image.specs.TreeImage.{nodeCount}
 use Rattle.layout.specs.Standing.{symbols, SomeRowListed}
 use Rattle.layout.proofs.Rows.{count-fits}
 use Rattle.layout.proofs.IndentationPass.{RowDone, node-listed, row-behind, node-given, row-end-given, row-after-token, token-given, tree-here, row-after-child, child-given}
@@ -19,9 +19,9 @@ use Rattle.layout.proofs.indentations.+node+row.Lts-node as node-lts
 use Rattle.layout.proofs.indentations.row.Reads as row
 use Rattle.layout.proofs.indentations.row.Kinds as row-kinds
 use Rattle.layout.proofs.indentations.+node+row.Lts-row as row-lts
-use Rattle.images.proofs.grammar.production_at.Reads as production-at-reads
-use Rattle.images.proofs.grammar.symbol_at.Reads as symbol-at-reads
-use Rattle.images.proofs.tree.node_at.Reads as node-at-reads
+use Rattle.grammar_image.proofs.production_at.Reads as production-at-reads
+use Rattle.grammar_image.proofs.symbol_at.Reads as symbol-at-reads
+use Rattle.tree_image.proofs.node_at.Reads as node-at-reads
 use Rattle.layout.proofs.indentations.set_at.Reads as set-at-reads
 use Rattle.rules.proofs.relation.least.Reads as least-reads
 use Rattle.layout.proofs.indentations.+node+row.{statement}

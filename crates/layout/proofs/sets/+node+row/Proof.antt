@@ -9,8 +9,8 @@ use native.Mathlib.Omega.{arith}
 use Rattle.rules.specs.Tree.{Row}
 use Rattle.rules.specs.Stored.{unbounded}
 use Rattle.rules.specs.Interval.{allSet, meet}
-use Rattle.images.specs.TreeImage.{nodeCount}
-use Rattle.images.proofs.Lists.{length-nodes}
+use Rattle.tree_image.specs.TreeImage.{nodeCount}
+use Rattle.tree_image.proofs.Lists.{length-nodes}
 use Rattle.layout.specs.Standing.{symbols, RowIn, SomeRow}
 use Rattle.layout.specs.Passes.{RowPassed}
 use Rattle.layout.specs.declared.sets.Passed.{Passed}
@@ -26,10 +26,10 @@ use Rattle.layout.proofs.sets.+node+row.Lts-node as node-lts
 use Rattle.layout.proofs.sets.row.Reads as row
 use Rattle.layout.proofs.sets.row.Kinds as row-kinds
 use Rattle.layout.proofs.sets.+node+row.Lts-row as row-lts
-use Rattle.images.proofs.grammar.production_at.Reads as production-at-reads
-use Rattle.images.proofs.grammar.symbol_at.Reads as symbol-at-reads
-use Rattle.images.proofs.tokens.token_at.Reads as token-at-reads
-use Rattle.images.proofs.tree.node_at.Reads as node-at-reads
+use Rattle.grammar_image.proofs.production_at.Reads as production-at-reads
+use Rattle.grammar_image.proofs.symbol_at.Reads as symbol-at-reads
+use Rattle.token_image.proofs.token_at.Reads as token-at-reads
+use Rattle.tree_image.proofs.node_at.Reads as node-at-reads
 use Rattle.layout.proofs.sets.store.Reads as store-reads
 use Rattle.rules.proofs.relation.all.Reads as all-reads
 use Rattle.rules.proofs.relation.child_leaves.Reads as child-leaves-reads

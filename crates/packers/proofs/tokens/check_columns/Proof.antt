@@ -9,9 +9,9 @@ use lib.Dec.{leb}
 use lib.ListN.{length, getD}
 use borrow.Author.Tests.{le-leb, lt-leb}
 use Rattle.rules.specs.Limits.{maxColumn}
-use Rattle.images.specs.Fields.{Field, field, eachFrom, firstFault}
+use Rattle.fields.specs.Fields.{Field, field, eachFrom, firstFault}
 use Rattle.packers.specs.Packing.{columnFields}
-use Rattle.images.proofs.Searching.{pass, fail, done, each-first, each-none}
+use Rattle.fields.proofs.Searching.{pass, fail, done, each-first, each-none}
 use Rattle.packers.proofs.tokens.check_columns.Statement.{statement}
 use Rattle.packers.proofs.tokens.check_columns.Tie as tie
 

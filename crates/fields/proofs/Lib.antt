@@ -1,0 +1,4 @@
+pub mod Formed
+pub mod Lists
+pub mod Promised
+pub mod Searching

@@ -1,0 +1,50 @@
+-- `grammar_image::check_grammar` meets its contract: the second part is searched where the first is good.
+use borrow.Author.Needs.{needs}
+use mathlib.Core.Path.{sym, _∙_}
+use mathlib.Core.List.{_++_}
+use denote.Ref.{now}
+use Rattle.grammar_image.specs.GrammarImage.{countFields, offsetFields, productionsFields, symbolsFields, grammarFields}
+use Rattle.fields.proofs.Searching.{then-good, then-fault}
+use Rattle.grammar_image.proofs.check_grammar.Statement.{statement}
+use Rattle.grammar_image.proofs.check_grammar.Tie as tie
+
+counts-at-requires : tie.Need-counts-at-requires
+counts-at-requires c κs = search needs
+
+check-header-requires : tie.Need-check-header-requires
+check-header-requires c κs = search needs
+
+enum-known-at : tie.Need-enum-known-at
+enum-known-at c = search needs
+
+enum-told : tie.Need-enum-told
+enum-told c = search needs
+
+check-records-requires : tie.Need-check-records-requires
+check-records-requires c κs = search needs
+
+returns : tie.Need-returns
+unfolding grammarFields
+returns c =
+    let start = c .before .before .before .before .before .before in
+    let image = now (start .args .image) in
+    then-fault (countFields image ++ offsetFields image) (productionsFields image ++ symbolsFields image) (sym (c .before .at .given .1) ∙ c .before .before .before .check-header .ensures)
+
+returns-2 : tie.Need-returns-2
+unfolding grammarFields
+returns-2 c =
+    let start = c .before .before .before .before .before .before in
+    let image = now (start .args .image) in
+    then-good (countFields image ++ offsetFields image) (productionsFields image ++ symbolsFields image) (sym (c .before .enum-told .given .1) ∙ c .before .before .before .check-header .ensures) (c .check-records .ensures)
+
+pub check-grammar-spec : {M : Type 1} → statement M
+check-grammar-spec =
+    tie.close
+    (tie.spec
+    counts-at-requires
+    check-header-requires
+    enum-known-at
+    enum-told
+    check-records-requires
+    returns
+    returns-2)

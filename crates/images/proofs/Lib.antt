@@ -1,5 +1,0 @@
-pub mod Columns
-pub mod Formed
-pub mod Lists
-pub mod Promised
-pub mod Searching

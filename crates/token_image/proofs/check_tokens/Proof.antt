@@ -1,0 +1,45 @@
+-- `token_image::check_tokens` meets its contract: the second part is searched where the first is good.
+use borrow.Author.Needs.{needs}
+use mathlib.Core.Path.{sym, _∙_}
+use denote.Ref.{now}
+use Rattle.token_image.specs.TokenImage.{headerFields, recordsFields, tokenFields}
+use Rattle.fields.proofs.Searching.{then-good, then-fault}
+use Rattle.token_image.proofs.check_tokens.Statement.{statement}
+use Rattle.token_image.proofs.check_tokens.Tie as tie
+
+check-header-requires : tie.Need-check-header-requires
+check-header-requires c κs = search needs
+
+enum-known-at : tie.Need-enum-known-at
+enum-known-at c = search needs
+
+enum-told : tie.Need-enum-told
+enum-told c = search needs
+
+check-records-requires : tie.Need-check-records-requires
+check-records-requires c κs = search needs
+
+returns : tie.Need-returns
+unfolding tokenFields
+returns c =
+    let start = c .before .before .before .before .before in
+    let image = now (start .args .image) in
+    then-fault (headerFields image) (recordsFields (start .args .terminals) image) (sym (c .before .at .given .1) ∙ c .before .before .before .check-header .ensures)
+
+returns-2 : tie.Need-returns-2
+unfolding tokenFields
+returns-2 c =
+    let start = c .before .before .before .before .before in
+    let image = now (start .args .image) in
+    then-good (headerFields image) (recordsFields (start .args .terminals) image) (sym (c .before .enum-told .given .1) ∙ c .before .before .before .check-header .ensures) (c .check-records .ensures)
+
+pub check-tokens-spec : {M : Type 1} → statement M
+check-tokens-spec =
+    tie.close
+    (tie.spec
+    check-header-requires
+    enum-known-at
+    enum-told
+    check-records-requires
+    returns
+    returns-2)

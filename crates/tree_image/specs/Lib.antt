@@ -1,0 +1,2 @@
+-- What a well-formed tree image is, and what it holds.
+pub mod TreeImage
