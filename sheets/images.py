@@ -19,6 +19,7 @@ that begins with # is a comment, and ( WORDS ) x N stands for the words N times,
       NODE LOW HIGH INDENTATION      as it is printed
       A to B by S: LOW HIGH INDENTATION    the lines of the nodes A, A + S, .. up to B; without "by S" of each node
                                      from A to B; a number that ends in + is one more at each further node
+      of P: LOW HIGH INDENTATION     the lines of the nodes of production P in the tree, which is said above
     choice NUMBER ...                an indentation for each node; they satisfy all relations
     not-choice NUMBER ...            an indentation for each node; they do not
     set IMAGE BYTE VALUE             damage, done in order once the images are made: the field of 16 bits at a byte
@@ -81,7 +82,14 @@ def grown(word, turn):
     return str(int(word[:-1]) + turn) if word.endswith("+") else word
 
 
-def answer_lines(first, lines):
+def nodes_named(head, tree):
+    """The nodes that the words before a colon name: A to B, A to B by S, or of P."""
+    if head[0] == "of":
+        return [node for node, production in enumerate(tree) if production == int(head[1])]
+    return range(int(head[0]), int(head[2]) + 1, int(head[4]) if head[3:4] == ["by"] else 1)
+
+
+def answer_lines(first, lines, tree):
     """The printed lines, in the order of the nodes. Every node from 0 up has exactly one."""
     nodes = {}
     for line in lines:
@@ -89,9 +97,8 @@ def answer_lines(first, lines):
             nodes_of_line, words = [int(line.split()[0])], line.split()[1:]
         else:
             head, words = line.split(":")[0].split(), line.split(":")[1].split()
-            step = int(head[4]) if head[3:4] == ["by"] else 1
-            nodes_of_line = range(int(head[0]), int(head[2]) + 1, step)
-        if len(words) != 3 or any(node in nodes for node in nodes_of_line):
+            nodes_of_line = nodes_named(head, tree)
+        if len(words) != 3 or not nodes_of_line or any(node in nodes for node in nodes_of_line):
             raise ValueError(line)
         for turn, node in enumerate(nodes_of_line):
             nodes[node] = " ".join([str(node)] + [grown(word, turn) for word in words])
@@ -142,7 +149,7 @@ class Sheet:
         elif keyword == "tree":
             self.tree += [int(word) for word in expanded(words + below)]
         elif keyword == "answer":
-            self.answer = answer_lines(" ".join(words), lines)
+            self.answer = answer_lines(" ".join(words), lines, self.tree)
         elif keyword in ("choice", "not-choice"):
             (self.choices if keyword == "choice" else self.not_choices).append([int(word) for word in expanded(words + below)])
         elif keyword in ("set", "byte", "cut", "add") and words[0] in ("grammar", "tokens", "tree"):

@@ -4,7 +4,6 @@
 //! `bench SAMPLES ROW proved|plain COUNT` runs one row so many times and prints nothing: a count of
 //! instructions is taken from outside.
 
-mod proved;
 mod rows;
 
 use rows::Row;
@@ -26,13 +25,14 @@ fn run(row: &Row, proved: bool, lists: &mut Lists) -> u8 {
         black_box(&row.tree[..]),
     );
     let number = if proved {
-        proved::check(
+        calls::check(
             grammar,
             tokens,
             tree,
             &mut lists.sets,
             &mut lists.indentations,
         )
+        .number
     } else {
         second::plain::check(
             grammar,

@@ -1,74 +1,13 @@
 //! What is measured: three images and the answer's number, for each row of the table.
 
+use second::build::{grammar, token_image, tree_image, trial};
+
 pub struct Row {
     pub name: String,
     pub grammar: Vec<u8>,
     pub tokens: Vec<u8>,
     pub tree: Vec<u8>,
     pub number: u8,
-}
-
-/// A symbol of a row: kind, relation, number.
-type Symbol = (u8, u8, u16);
-
-fn fields(values: &[u16]) -> Vec<u8> {
-    values.iter().flat_map(|v| v.to_le_bytes()).collect()
-}
-
-fn grammar(terminals: u16, nonterminals: u16, productions: &[(u16, Vec<Symbol>)]) -> Vec<u8> {
-    let count = productions.len() as u16;
-    let entries: u16 = productions.iter().map(|p| p.1.len() as u16).sum();
-    let symbols = 16 + 6 * count;
-    let mut image = fields(&[
-        terminals,
-        nonterminals,
-        0,
-        count,
-        entries,
-        16,
-        symbols,
-        symbols + 4 * entries,
-    ]);
-    let mut first = 0;
-    for (left, row) in productions {
-        image.extend(fields(&[*left, first, row.len() as u16]));
-        first += row.len() as u16;
-    }
-    for (kind, relation, number) in productions.iter().flat_map(|p| &p.1) {
-        image.extend([*kind, *relation]);
-        image.extend(number.to_le_bytes());
-    }
-    image
-}
-
-fn tokens(list: &[(u16, u16)]) -> Vec<u8> {
-    let count = list.len() as u16;
-    let mut image = fields(&[count, 6, 6 + 4 * count]);
-    list.iter().for_each(|t| image.extend(fields(&[t.0, t.1])));
-    image
-}
-
-fn tree(nodes: &[u16]) -> Vec<u8> {
-    let count = nodes.len() as u16;
-    let mut image = fields(&[count, 6, 6 + 2 * count]);
-    image.extend(fields(nodes));
-    image
-}
-
-/// The trial grammar of document 01.
-fn trial_grammar() -> Vec<u8> {
-    grammar(
-        3,
-        4,
-        &[
-            (0, vec![(0, 0, 0), (1, 1, 1)]),
-            (1, vec![(1, 0, 2), (1, 0, 1)]),
-            (1, vec![]),
-            (2, vec![(0, 0, 1), (1, 1, 3)]),
-            (3, vec![(0, 2, 2), (1, 0, 3)]),
-            (3, vec![]),
-        ],
-    )
 }
 
 /// A day at column 1 and so many hours at column 3 without items.
@@ -82,9 +21,9 @@ pub fn hours(count: usize) -> Row {
     nodes.push(2);
     Row {
         name: format!("{count} hours"),
-        grammar: trial_grammar(),
-        tokens: tokens(&list),
-        tree: tree(&nodes),
+        grammar: trial(),
+        tokens: token_image(&list),
+        tree: tree_image(&nodes),
         number: 0,
     }
 }
@@ -105,8 +44,8 @@ fn wide(name: &str, nonterminals: u16, inner: usize) -> Row {
     Row {
         name: name.to_string(),
         grammar: grammar(1024, nonterminals, &productions),
-        tokens: tokens(&list),
-        tree: tree(&nodes),
+        tokens: token_image(&list),
+        tree: tree_image(&nodes),
         number: 0,
     }
 }

@@ -5,11 +5,14 @@
 pub mod derivation;
 pub mod images;
 mod least;
+mod packing;
 mod relation;
 mod tables;
 
 use derivation::Walk;
 use images::Images;
+pub use images::{check_grammar, check_tokens, check_tree};
+pub use packing::{pack_tokens, pack_tree};
 
 /// Number and place by the table of document 01.
 pub fn check(

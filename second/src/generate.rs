@@ -1,4 +1,4 @@
-//! Inputs for the comparison. Each depends on seed and index only.
+//! Inputs for the comparisons. Each depends on seed and index only.
 //!
 //! Most are small and in order; a few percent are deep or large, and about
 //! half are damaged in some way.
@@ -8,32 +8,53 @@ mod damage;
 mod edges;
 mod grammars;
 mod growth;
-mod random;
+pub mod lists;
+pub mod random;
 mod sheet;
 
+use crate::delivery::cut;
 use growth::{grow, Aim};
 use random::Random;
 use sheet::Sheet;
 
 /// The whole of one input, as it goes to standard input.
 pub fn input(seed: u64, index: u64) -> Vec<u8> {
+    match made(seed, index) {
+        Made::Images(images) => images.concat(),
+        Made::Bytes(bytes) => bytes,
+    }
+}
+
+/// One input as grammar, token and tree image, as they go to a call. An image
+/// may be longer than its total-length field says, which no cut gives.
+pub fn images(seed: u64, index: u64) -> [Vec<u8>; 3] {
+    match made(seed, index) {
+        Made::Images(images) => images,
+        Made::Bytes(bytes) => cut(&bytes).map(<[u8]>::to_vec),
+    }
+}
+
+/// Three images, or bytes of which only a cut says where an image ends.
+enum Made {
+    Images([Vec<u8>; 3]),
+    Bytes(Vec<u8>),
+}
+
+fn made(seed: u64, index: u64) -> Made {
     let random = &mut Random::new(seed, index);
     let mut sheet = any_sheet(random);
     columns::lay(random, &mut sheet);
     match random.below(20) {
-        0..=9 => sheet.images().concat(),
-        10..=11 => {
-            edges::edge(random, &mut sheet);
-            sheet.images().concat()
-        }
+        0..=9 => {}
+        10..=11 => edges::edge(random, &mut sheet),
         12..=15 => {
             for _ in 0..random.pick(&[1, 1, 1, 1, 2, 3]) {
                 damage::lists(random, &mut sheet);
             }
-            sheet.images().concat()
         }
-        _ => damage::bytes(random, sheet.images()),
+        _ => return damage::bytes(random, sheet.images()),
     }
+    Made::Images(sheet.images())
 }
 
 fn any_sheet(random: &mut Random) -> Sheet {

@@ -3,8 +3,12 @@
 //! indentations. Nothing is taken from the heap.
 
 mod images;
+mod packing;
+mod reading;
 mod walk;
 
+pub use packing::{pack_tokens, pack_tree};
+pub use reading::{Reading, Right};
 use walk::{Note, NO_BOUND};
 
 const MOST_NODES: usize = 4096;
@@ -17,22 +21,49 @@ pub fn check(
     sets: &mut [u32],
     indentations: &mut [u32],
 ) -> (u8, usize) {
-    match judge(grammar, tokens, tree, sets, indentations) {
+    match judge::<Right>(grammar, tokens, tree, sets, indentations) {
         Ok(()) => (0, 0),
         Err(refusal) => refusal,
     }
 }
 
-type Refusal = (u8, usize);
+/// Number and place for a grammar image alone.
+pub fn check_grammar(image: &[u8]) -> (u8, usize) {
+    match images::grammar::<Right>(image) {
+        Ok(_) => (0, 0),
+        Err(place) => (1, place),
+    }
+}
 
-fn judge(
+/// Number and place for a token image alone, with so many terminals.
+pub fn check_tokens(image: &[u8], terminals: u16) -> (u8, usize) {
+    match images::tokens(image, terminals) {
+        Ok(_) => (0, 0),
+        Err(place) => (2, place),
+    }
+}
+
+/// Number and place for a tree image alone, with so many productions.
+pub fn check_tree(image: &[u8], productions: u16) -> (u8, usize) {
+    match images::nodes(image, productions.into()) {
+        Ok(_) => (0, 0),
+        Err(place) => (3, place),
+    }
+}
+
+/// Number and place.
+pub type Refusal = (u8, usize);
+
+/// The check by a reading of document 01, which only `Right` is sure to have
+/// right.
+pub fn judge<R: Reading>(
     grammar: &[u8],
     tokens: &[u8],
     tree: &[u8],
     sets: &mut [u32],
     indentations: &mut [u32],
 ) -> Result<(), Refusal> {
-    let grammar = images::grammar(grammar).map_err(|place| (1, place))?;
+    let grammar = images::grammar::<R>(grammar).map_err(|place| (1, place))?;
     let tokens = images::tokens(tokens, grammar.terminals).map_err(|place| (2, place))?;
     let nodes = images::nodes(tree, grammar.productions.len()).map_err(|place| (3, place))?;
     let count = nodes.len();
@@ -41,11 +72,11 @@ fn judge(
 
     let mut notes = [Note::default(); MOST_NODES];
     let notes = &mut notes[..count];
-    walk::derive(&grammar, tokens, nodes, notes)?;
-    if let Some(place) = write_sets(notes, sets) {
+    walk::derive::<R>(&grammar, tokens, nodes, notes)?;
+    if let Some(place) = write_sets::<R>(notes, sets) {
         return Err((12, place));
     }
-    write_indentations(notes, indentations);
+    write_indentations::<R>(notes, indentations);
     Ok(())
 }
 
@@ -53,7 +84,7 @@ fn judge(
 ///
 /// Backward, because every child has a higher number than its node: when a
 /// node's turn comes, its note has met all its tokens and all its children.
-fn write_sets(notes: &mut [Note], sets: &mut [u32]) -> Option<usize> {
+fn write_sets<R: Reading>(notes: &mut [Note], sets: &mut [u32]) -> Option<usize> {
     let mut highest_empty = None;
     for (node, set) in sets.as_chunks_mut::<2>().0.iter_mut().enumerate().rev() {
         let note = notes[node];
@@ -67,7 +98,7 @@ fn write_sets(notes: &mut [Note], sets: &mut [u32]) -> Option<usize> {
             highest_empty = highest_empty.or(Some(node));
         }
         if node > 0 {
-            notes[usize::from(note.above)].meet(note.relation, note.low, note.high);
+            notes[usize::from(note.above)].meet::<R>(note.relation, note.low, note.high);
         }
     }
     highest_empty
@@ -76,13 +107,13 @@ fn write_sets(notes: &mut [Note], sets: &mut [u32]) -> Option<usize> {
 /// Gives every node its least number: the lowest of its own set that its
 /// parent's number allows. Sets are intervals, and the parent's number is in
 /// the parent's set, so the lowest allowed number is never above the high.
-fn write_indentations(notes: &[Note], indentations: &mut [u32]) {
+fn write_indentations<R: Reading>(notes: &[Note], indentations: &mut [u32]) {
     for (node, note) in notes.iter().enumerate() {
         let low = note.low as u32;
         let parent = indentations[usize::from(note.above)];
         indentations[node] = match note.relation {
             0 => parent,
-            1 => low.max(parent + 1),
+            1 => low.max(parent + R::STEP as u32),
             2 => low.max(parent),
             _ => low,
         };

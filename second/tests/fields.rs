@@ -4,16 +4,6 @@ mod common;
 
 use common::*;
 
-/// A field by its byte and the number set there.
-type Change = (usize, u16);
-
-fn changed(mut image: Vec<u8>, changes: &[Change]) -> Vec<u8> {
-    for &(at, value) in changes {
-        image[at..at + 2].copy_from_slice(&value.to_le_bytes());
-    }
-    image
-}
-
 fn expect(grammar: &[u8], tokens: &[u8], tree: &[u8], answer: (u8, usize)) {
     for (name, check) in CHECKS {
         assert_eq!(run(check, grammar, tokens, tree).answer, answer, "{name}");

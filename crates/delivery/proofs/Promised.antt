@@ -1,4 +1,5 @@
--- What a reader of the cutting may rely on: no byte is lost, three well-formed images one after another are cut into those three, and 47,133 bytes are one more than these have.
+-- What a reader of the cutting may rely on: no byte is lost, three well-formed images one after another are cut into
+-- those three, and 47,133 bytes are one more than these have.
 use mathlib.Core.Path.{_≡_, sym, ap, _∙_}
 use mathlib.Core.List.{List, _++_}
 use Prim.Native.Nat.{ℕ, _+_, _*_, _≤_}
@@ -8,13 +9,15 @@ use lib.ListN.{length, take, drop, take-append-drop, length-append, List·getD-a
 use lib.Seq.{take-at, drop-at}
 use Rattle.rules.specs.Limits.{maxProductions, maxEntries, maxTokens, maxNodes}
 use Rattle.fields.specs.Fields.{fieldAt, WellFormed}
-use Rattle.grammar_image.specs.GrammarImage.{productionCount, entryCount, countFields, offsetFields, productionsFields, symbolsFields, grammarFields}
+use Rattle.grammar_image.specs.GrammarImage.{productionCount, entryCount, countFields, offsetFields}
+use Rattle.grammar_image.specs.GrammarImage.{productionsFields, symbolsFields, grammarFields}
 use Rattle.token_image.specs.TokenImage.{tokenCount, tokenFields}
 use Rattle.token_image.specs.TokenImage.{headerFields as tokenHeader, recordsFields as tokenRecords}
 use Rattle.tree_image.specs.TreeImage.{nodeCount, treeFields}
 use Rattle.tree_image.specs.TreeImage.{headerFields as treeHeader, recordsFields as treeRecords}
 use Rattle.fields.proofs.Formed.{formed-parts}
-use Rattle.delivery.specs.Delivery.{imageLength, grammarLength, tokenLength, grammarIn, afterGrammar, tokensIn, treeIn}
+use Rattle.delivery.specs.Delivery.{imageLength, grammarLength, tokenLength, grammarIn, afterGrammar, tokensIn}
+use Rattle.delivery.specs.Delivery.{treeIn}
 use Rattle.delivery.proofs.Lengths.{said}
 
 -- the three parts one after another are the delivery
@@ -82,7 +85,8 @@ tree-sized P tree h =
     omega (arith, eqb-true (fieldAt tree 4) (length tree) (header .1 .1 .1 .1 .1 .0), eqb-true (fieldAt tree 4) (6 + 2 * nodeCount tree) (header .1 .1 .1 .1 .0), leb-true (nodeCount tree) maxNodes (header .1 .1 .0))
 
 -- "grammar, token and tree image one after another": what is cut are the images that were put there
-pub images-back : (T : ℕ) (grammar tokens tree : List ℕ) → WellFormed (grammarFields grammar) → WellFormed (tokenFields T tokens) →
+pub images-back : (T : ℕ) (grammar tokens tree : List ℕ) →
+    WellFormed (grammarFields grammar) → WellFormed (tokenFields T tokens) →
     let delivery = grammar ++ (tokens ++ tree) in
     (grammarIn delivery ≡ grammar) × (tokensIn delivery ≡ tokens) × (treeIn delivery ≡ tree)
 images-back T grammar tokens tree g t =
@@ -91,7 +95,9 @@ images-back T grammar tokens tree g t =
     (grammar-back grammar tokens tree gs ts, tokens-back grammar tokens tree gs ts, tree-back grammar tokens tree gs ts)
 
 -- "It reads at most 47,133 bytes": a delivery of well-formed images has fewer
-pub longest : (T P : ℕ) (delivery : List ℕ) → WellFormed (grammarFields (grammarIn delivery)) → WellFormed (tokenFields T (tokensIn delivery)) → WellFormed (treeFields P (treeIn delivery)) →
+pub longest : (T P : ℕ) (delivery : List ℕ) →
+    WellFormed (grammarFields (grammarIn delivery)) → WellFormed (tokenFields T (tokensIn delivery)) →
+    WellFormed (treeFields P (treeIn delivery)) →
     length delivery ≤ 47132
 longest T P delivery g t n =
     let sum = ap (λ (l : List ℕ). length l) (whole delivery) in

@@ -5,6 +5,7 @@ use Prim.Native.Nat.{ℕ, min}
 use lib.Dec.{ltb}
 use lib.ListN.{length, take, drop}
 use Rattle.fields.specs.Fields.{fieldAt}
+use Rattle.fields.specs.Images.{Images, images}
 
 -- "cut by their total-length field, or take all that remains where fewer bytes remain or the header is short":
 -- how many of the bytes that are there an image takes, by the length of its header and what its total-length field says
@@ -31,3 +32,7 @@ tokensIn delivery = take (tokenLength (afterGrammar delivery)) (afterGrammar del
 -- "the third is the rest"
 unfoldable pub treeIn : List ℕ → List ℕ
 treeIn delivery = drop (tokenLength (afterGrammar delivery)) (afterGrammar delivery)
+
+-- the three together
+abbrev pub imagesIn : List ℕ → Images
+imagesIn delivery = images (grammarIn delivery) (tokensIn delivery) (treeIn delivery)

@@ -4,8 +4,9 @@ use judge::check;
 ghost use mathlib.Core.Path.{_≡_};
 ghost use Prim.Native.Nat.{_≤_};
 ghost use lib.ListN.{length};
-ghost use Rattle.judge.specs.Judged.{Judged, given};
-ghost use Rattle.delivery.specs.Delivery.{imageLength, grammarLength, tokenLength, grammarIn, tokensIn, treeIn, afterGrammar};
+ghost use Rattle.judge.specs.Judged.{Judged, lists, given};
+ghost use Rattle.delivery.specs.Delivery.{imageLength, grammarLength, tokenLength};
+ghost use Rattle.delivery.specs.Delivery.{grammarIn, afterGrammar, tokensIn, treeIn, imagesIn};
 
 // The bytes of a grammar image's header.
 const GRAMMAR_HEADER: usize = 16;
@@ -82,7 +83,10 @@ pub fn tree_in(delivery: &[u8]) -> &[u8]
 
 // The check on the three images of a delivery.
 pub fn check_delivery(delivery: &[u8], sets: &mut [u32], indentations: &mut [u32]) -> Answer
-    ensures { λ r. ⌜ Judged (grammarIn (now (delivery .entry))) (tokensIn (now (delivery .entry))) (treeIn (now (delivery .entry))) (now (sets .entry)) (now (indentations .entry)) (given r) (now (sets .exit)) (now (indentations .exit)) ⌝ }
+    ensures { λ r. ⌜ Judged (imagesIn (now (delivery .entry)))
+        (lists (now (sets .entry)) (now (indentations .entry)))
+        (given r)
+        (lists (now (sets .exit)) (now (indentations .exit))) ⌝ }
 {
     let grammar = grammar_in(delivery);
     let tokens = tokens_in(delivery);

@@ -1,9 +1,10 @@
--- What the contract of `derive` allows: one outcome, which is `Derived` exactly if the nodes of the tree image derive the tokens of the token image within the limit.
+-- What the contract of `derive` allows: one outcome, which is `Derived` exactly if the nodes of the tree image derive
+-- the tokens of the token image within the limit.
 use mathlib.Core.Path.{_≡_, refl, sym, ap, _∙_}
 use mathlib.Core.Bool.{cond}
-use mathlib.Core.List.{List}
 use Prim.Native.Nat.{ℕ}
 use lib.Dec.{eqb}
+use Rattle.fields.specs.Images.{Images}
 use Rattle.rules.specs.Limits.{maxDepth}
 use Rattle.rules.specs.Derivation.{DerivesWithin}
 use Rattle.rules.specs.Walk.{Answer}
@@ -11,7 +12,8 @@ use Rattle.rules.proofs.Refusals.{derived, derives-answered}
 use Rattle.grammar_image.specs.GrammarImage.{productionAt, startNonterminal}
 use Rattle.token_image.specs.TokenImage.{tokensOf}
 use Rattle.tree_image.specs.TreeImage.{nodesOf}
-use Rattle.derive.specs.declared.Refusal.the-variants.{WrongNode, NodesEnd, WrongToken, TokensEnd, TooDeep, NodesRemain, TokensRemain}
+use Rattle.derive.specs.declared.Refusal.the-variants.{WrongNode, NodesEnd, WrongToken, TokensEnd, TooDeep}
+use Rattle.derive.specs.declared.Refusal.the-variants.{NodesRemain, TokensRemain}
 use Rattle.derive.specs.declared.Derivation.{Derivation}
 use Rattle.derive.specs.declared.Derivation.the-variants.{Derived, Refused}
 use Rattle.derive.specs.Answers.{derivationAnswer}
@@ -43,16 +45,21 @@ told (Refused (TokensRemain place)) = refl
 same-answer : (r s : Derivation) → derivationAnswer r ≡ derivationAnswer s → r ≡ s
 same-answer r s e = sym (told r) ∙ ap (λ (a : Answer). outcome (a .number) (a .place)) e ∙ told s
 
-module _ (grammar tokens tree : List ℕ) where
+module _ (s : Images) where
   -- two outcomes that the contract of `derive` allows are equal
-  pub one-outcome : (r s : Derivation) → derivationAnswer r ≡ walkIn grammar tokens tree → derivationAnswer s ≡ walkIn grammar tokens tree → r ≡ s
-  one-outcome r s e f = same-answer r s (e ∙ sym f)
+  pub one-outcome : (r r′ : Derivation) → derivationAnswer r ≡ walkIn s → derivationAnswer r′ ≡ walkIn s → r ≡ r′
+  one-outcome r r′ e f = same-answer r r′ (e ∙ sym f)
 
-  -- derived: some tree derives the whole token list within the limit
-  pub derived-derives : derivationAnswer Derived ≡ walkIn grammar tokens tree → DerivesWithin maxDepth (productionAt grammar) (startNonterminal grammar) (nodesOf tree) (tokensOf tokens)
+  -- a tree derives the whole token list within the limit
+  abbrev Derives : Type 0
+  Derives =
+      DerivesWithin maxDepth (productionAt (s .grammar)) (startNonterminal (s .grammar)) (nodesOf (s .tree))
+      (tokensOf (s .tokens))
+
+  -- derived: some tree derives
+  pub derived-derives : derivationAnswer Derived ≡ walkIn s → Derives
   derived-derives e = derived _ _ _ _ (sym (ap (λ (a : Answer). a .number) e))
 
   -- and wherever some tree does, derived is the outcome
-  pub derives-derived : (r : Derivation) → derivationAnswer r ≡ walkIn grammar tokens tree →
-      DerivesWithin maxDepth (productionAt grammar) (startNonterminal grammar) (nodesOf tree) (tokensOf tokens) → r ≡ Derived
+  pub derives-derived : (r : Derivation) → derivationAnswer r ≡ walkIn s → Derives → r ≡ Derived
   derives-derived r e d = same-answer r Derived (e ∙ derives-answered _ _ _ _ d)

@@ -1,7 +1,8 @@
 -- Document 01's number and place for each case of the derivation's answer.
 use Rattle.rules.specs.Walk.{Answer, answer, Walked as WalkedTo, used, refused}
 use Rattle.derive.specs.declared.Refusal.{Refusal}
-use Rattle.derive.specs.declared.Refusal.the-variants.{WrongNode, NodesEnd, WrongToken, TokensEnd, TooDeep, NodesRemain, TokensRemain}
+use Rattle.derive.specs.declared.Refusal.the-variants.{WrongNode, NodesEnd, WrongToken, TokensEnd, TooDeep}
+use Rattle.derive.specs.declared.Refusal.the-variants.{NodesRemain, TokensRemain}
 use Rattle.derive.specs.declared.Derivation.{Derivation}
 use Rattle.derive.specs.declared.Derivation.the-variants.{Derived, Refused}
 use Rattle.derive.specs.declared.walk.Walked.{Walked}

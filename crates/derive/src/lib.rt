@@ -5,11 +5,12 @@ mod walk;
 use crate::walk::Walked;
 use crate::walk::node;
 use grammar_image::counts_at;
+use rules::DEPTH;
 use token_image::token_count;
 use tree_image::node_count;
-use rules::DEPTH;
 ghost use mathlib.Core.Path.{_≡_};
 ghost use Rattle.rules.specs.Walk.{walkDone, used};
+ghost use Rattle.fields.specs.Images.{images};
 ghost use Rattle.token_image.specs.TokenImage.{tokensOf};
 ghost use Rattle.tree_image.specs.TreeImage.{nodesOf};
 ghost use Rattle.derive.specs.Answers.{refusalAnswer, derivationAnswer};
@@ -75,7 +76,8 @@ impl Refusal {
 
 // What is left once the walk is done.
 fn remaining(tokens: &[u8], tree: &[u8], n: u16, k: u16) -> Derivation
-    ensures { λ r. ⌜ derivationAnswer r ≡ walkDone (nodesOf (now (tree .entry))) (tokensOf (now (tokens .entry))) (used n k) ⌝ }
+    ensures { λ r. ⌜ derivationAnswer r
+        ≡ walkDone (nodesOf (now (tree .entry))) (tokensOf (now (tokens .entry))) (used n k) ⌝ }
 {
     if n < node_count(tree) {
         return Derivation::Refused(Refusal::NodesRemain(n));
@@ -89,7 +91,8 @@ fn remaining(tokens: &[u8], tree: &[u8], n: u16, k: u16) -> Derivation
 // Whether the nodes of the tree image derive the whole token list from the start nonterminal, by a
 // walk in preorder: derived, or the first refusal among 5 to 11 with its place.
 pub fn derive(grammar: &[u8], tokens: &[u8], tree: &[u8]) -> Derivation
-    ensures { λ r. ⌜ derivationAnswer r ≡ walkIn (now (grammar .entry)) (now (tokens .entry)) (now (tree .entry)) ⌝ }
+    ensures { λ r. ⌜ derivationAnswer r
+        ≡ walkIn (images (now (grammar .entry)) (now (tokens .entry)) (now (tree .entry))) ⌝ }
 {
     let counts = counts_at(grammar);
     match node(grammar, tokens, tree, DEPTH, counts.start, 0, 0) {

@@ -10,6 +10,7 @@ use tree_image::node_count;
 ghost use mathlib.Core.Path.{_≡_};
 ghost use Rattle.rules.specs.Walk.{tokenDue};
 ghost use Rattle.fields.specs.Fields.{listFrom};
+ghost use Rattle.fields.specs.Images.{images};
 ghost use Rattle.grammar_image.specs.GrammarImage.{symbolAt};
 ghost use Rattle.token_image.specs.TokenImage.{tokensOf};
 ghost use Rattle.derive.specs.Answers.{walkedAs};
@@ -48,7 +49,8 @@ pub fn node(
     n: u16,
     k: u16,
 ) -> Walked
-    ensures { λ r. ⌜ walkedAs r ≡ nodeDueIn (now (grammar .entry)) (now (tokens .entry)) (now (tree .entry)) levels nonterminal n k ⌝ }
+    ensures { λ r. ⌜ walkedAs r
+        ≡ nodeDueIn (images (now (grammar .entry)) (now (tokens .entry)) (now (tree .entry))) levels nonterminal n k ⌝ }
 {
     let count = node_count(tree);
     if n >= count {
@@ -84,7 +86,9 @@ fn row(
     n: u16,
     k: u16,
 ) -> Walked
-    ensures { λ r. ⌜ walkedAs r ≡ rowDueIn (now (grammar .entry)) (now (tokens .entry)) (now (tree .entry)) levels (listFrom first count (symbolAt (now (grammar .entry)))) n k ⌝ }
+    ensures { λ r. ⌜ walkedAs r
+        ≡ rowDueIn (images (now (grammar .entry)) (now (tokens .entry)) (now (tree .entry))) levels
+        (listFrom first count (symbolAt (now (grammar .entry)))) n k ⌝ }
 {
     let start = first as u32;
     let end = start + (count as u32);

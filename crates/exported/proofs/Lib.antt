@@ -1,2 +1,2 @@
--- What is proved of the exported check.
+-- What is proved of the calls.
 pub mod Promised

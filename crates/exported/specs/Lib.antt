@@ -1,2 +1,2 @@
--- What the exported check gives.
-pub mod Numbered
+-- What the calls under a C name give.
+pub mod Calls

@@ -1,4 +1,5 @@
--- What is promised of every check of an image: good exactly on well-formed images, else the first fault; and one outcome for each input.
+-- What is promised of every check of an image: good exactly on well-formed images, else the first fault; and one
+-- outcome for each input.
 use mathlib.Core.Bool.{Bool, true, false, cond}
 use mathlib.Core.Path.{_≡_, refl, sym, ap, _∙_}
 use mathlib.Core.List.{List, [], _∷_}

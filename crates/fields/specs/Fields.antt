@@ -15,7 +15,8 @@ fieldAt image i = getD image i 0 + 256 * getD image (i + 1) 0
 abbrev pub Bytes : List ℕ → Type 0
 Bytes image = (i : ℕ) → getD image i 0 < 256
 
--- a field and a rule of it, by the byte that is the field's place and by whether the field keeps the rule; a field with two rules is listed twice
+-- a field and a rule of it, by the byte that is the field's place and by whether the field keeps the rule; a field with
+-- two rules is listed twice
 pub record Field : Type 0 where
   pub byte : ℕ
   pub keeps : Bool

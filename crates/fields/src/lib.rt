@@ -12,7 +12,7 @@ pub enum Checked {
     Good,
     // The byte of the first field that breaks its rule, or the image's length where its header does
     // not fit.
-    Fault(usize),
+    Fault(u32),
 }
 
 impl Checked {
@@ -27,7 +27,7 @@ impl Checked {
     }
 
     // The answer's place.
-    pub fn place(self) -> usize
+    pub fn place(self) -> u32
         ensures { λ r. ⌜ r ≡ checkedPlace self ⌝ }
     {
         match self {

@@ -18,7 +18,8 @@ one-counts image r s p q =
       entries = one-result (p .entries) (q .entries) i;
     }
 
-pub one-production : (image : List ℕ) (n : ℕ) (r s : Production) → ProductionIs image n r → ProductionIs image n s → r ≡ s
+pub one-production : (image : List ℕ) (n : ℕ) (r s : Production) →
+    ProductionIs image n r → ProductionIs image n s → r ≡ s
 one-production image n r s p q =
     λ i. record { left = one-result (p .left) (q .left) i; first = one-result (p .first) (q .first) i; count = one-result (p .count) (q .count) i }
 

@@ -1,5 +1,7 @@
--- "Grammar image. Bytes 0: terminals T, 1 to 1,024. 2: nonterminals N, 1 to 1,024. 4: start nonterminal, below N. 6: productions P, 1 to 1,024.
--- 8: symbol entries Y, 0 to 4,096. 10: offset of the productions, 16. 12: offset of the symbols, 16 + 6P. 14: total length, 16 + 6P + 4Y, which is also the image's real length."
+-- "Grammar image. Bytes 0: terminals T, 1 to 1,024. 2: nonterminals N, 1 to 1,024. 4: start nonterminal, below N. 6:
+-- productions P, 1 to 1,024.
+-- 8: symbol entries Y, 0 to 4,096. 10: offset of the productions, 16. 12: offset of the symbols, 16 + 6P. 14: total
+-- length, 16 + 6P + 4Y, which is also the image's real length."
 use mathlib.Core.Path.{_≡_}
 use mathlib.Core.Bool.{_&&_, cond}
 use mathlib.Core.List.{List, [], _∷_, _++_}
@@ -38,7 +40,8 @@ firstOf image p = fieldAt image (16 + 6 * p + 2)
 abbrev pub countOf : List ℕ → ℕ → ℕ
 countOf image p = fieldAt image (16 + 6 * p + 4)
 
--- "A symbol entry is 4 bytes: one byte kind (0 terminal, 1 nonterminal), one byte relation (0 to 3), then the symbol's number (below T or N)": the byte of entry y
+-- "A symbol entry is 4 bytes: one byte kind (0 terminal, 1 nonterminal), one byte relation (0 to 3), then the symbol's
+-- number (below T or N)": the byte of entry y
 abbrev pub entryByte : List ℕ → ℕ → ℕ
 entryByte image y = 16 + 6 * productionCount image + 4 * y
 
@@ -52,7 +55,8 @@ symbolAt image y =
 
 -- production p with its row
 unfoldable pub productionAt : List ℕ → ℕ → Production
-productionAt image p = record { left = leftOf image p; right = listFrom (firstOf image p) (countOf image p) (symbolAt image) }
+productionAt image p =
+    record { left = leftOf image p; right = listFrom (firstOf image p) (countOf image p) (symbolAt image) }
 
 -- what the image holds: the productions with their rows
 unfoldable pub productionsOf : List ℕ → List Production
@@ -98,7 +102,8 @@ offsetFields image =
     ∷ field 14 (eqb (fieldAt image 14) (length image))
     ∷ []
 
--- "The first entry of production 0 is 0; each later one starts where the one before ended": the entry where production p has to start
+-- "The first entry of production 0 is 0; each later one starts where the one before ended": the entry where production
+-- p has to start
 unfoldable pub startsAt : List ℕ → ℕ → ℕ
 startsAt image zero = 0
 startsAt image (suc p) = startsAt image p + countOf image p
@@ -108,7 +113,8 @@ unfoldable pub productionFields : List ℕ → ℕ → List Field
 productionFields image p =
     field (16 + 6 * p) (ltb (leftOf image p) (nonterminalCount image))
     ∷ field (16 + 6 * p + 2) (eqb (firstOf image p) (startsAt image p))
-    ∷ field (16 + 6 * p + 4) (leb (countOf image p) maxRow && leb (startsAt image p + countOf image p) (entryCount image))
+    ∷ field (16 + 6 * p + 4)
+    (leb (countOf image p) maxRow && leb (startsAt image p + countOf image p) (entryCount image))
     ∷ []
 
 -- "After the last production and before the symbols, a last end other than Y is a fault of byte 8"

@@ -13,7 +13,8 @@ ghost use mathlib.Core.List.{_++_};
 ghost use lib.ListN.{getD};
 ghost use Rattle.fields.specs.Fields.{fieldAt, firstFault, nowhere};
 ghost use Rattle.grammar_image.specs.GrammarImage.{Counted, ProductionIs, SymbolIs, startsAt};
-ghost use Rattle.grammar_image.specs.GrammarImage.{countFields, offsetFields, productionFields, productionsFields};
+ghost use Rattle.grammar_image.specs.GrammarImage.{countFields, offsetFields, productionFields};
+ghost use Rattle.grammar_image.specs.GrammarImage.{productionsFields};
 ghost use Rattle.grammar_image.specs.GrammarImage.{symbolFields, symbolsFields, grammarFields};
 
 // The header of a grammar image.
@@ -90,7 +91,7 @@ fn check_counts(image: &[u8], counts: Counts) -> Checked
 {
     let length = image.len();
     if length < 16 {
-        return Checked::Fault(length);
+        return Checked::Fault(length as u32);
     }
     if counts.terminals < 1 {
         return Checked::Fault(0);
@@ -167,7 +168,7 @@ fn check_productions(image: &[u8], counts: Counts) -> Checked
         for p in 0..productions {
             for f in 0..3 {
                 if !production_keeps(image, counts, p, f, starts) {
-                    break 'search 16 + 6 * p + 2 * f;
+                    break 'search (16 + 6 * p + 2 * f) as u32;
                 }
             }
             starts += field_at(image, 16 + 6 * p + 4) as usize;
@@ -211,7 +212,7 @@ fn check_symbols(image: &[u8], counts: Counts) -> Checked
         for y in 0..entries {
             for f in 0..3 {
                 if !symbol_keeps(image, counts, y, f) {
-                    break 'search symbols + 4 * y + f;
+                    break 'search (symbols + 4 * y + f) as u32;
                 }
             }
         }

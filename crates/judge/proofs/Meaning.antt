@@ -9,6 +9,7 @@ use lib.Dec.{eqb}
 use lib.ListN.{length, getD, take, drop, List·getD-append}
 use lib.Seq.{take-at, drop-at}
 use borrow.Author.Tests.{eqb-true, eqb-false}
+use Rattle.fields.specs.Images.{Images}
 use Rattle.rules.specs.Limits.{maxColumn, maxDepth, maxIndentation}
 use Rattle.rules.specs.Grammar.{Production, Token}
 use Rattle.rules.specs.Derivation.{nodes, depth, Derives}
@@ -30,15 +31,16 @@ use Rattle.packers.specs.declared.Packed.{Packed}
 use Rattle.packers.specs.Answers.{packedNumber}
 use Rattle.packers.specs.Packing.{treeImage, tokenImage, TreePacked, TokensPacked}
 use Rattle.packers.proofs.Refused.{refusal-writes-nothing}
-use Rattle.judge.specs.Judged.{tests, firstRefusal, Fitting, DerivesIn, written, Judged}
+use Rattle.judge.specs.Judged.{Lists, entriesOf, tests, firstRefusal, Fitting, DerivesIn, written, Judged}
 use Rattle.judge.proofs.Passed.{all-passed, refusal-below, none-refuses}
 
 -- two outcomes that the contract allows are equal
-pub one-judged : {grammar tokens tree oldSets oldIndentations : List ℕ} {a b : Answer} {xs ys is js : List ℕ} →
-    Judged grammar tokens tree oldSets oldIndentations a xs is → Judged grammar tokens tree oldSets oldIndentations b ys js → (a ≡ b) × (xs ≡ ys) × (is ≡ js)
+pub one-judged : {s : Images} {old new new′ : Lists} {a b : Answer} → Judged s old a new → Judged s old b new′ → (a ≡ b) × (new ≡ new′)
 one-judged j k =
     let same = verdicts.one-verdict _ _ _ _ _ (j .verdict) (k .verdict) in
-    (same .0, j .setsAfter ∙ ap (λ (l : List ℕ). written l _) (same .1) ∙ sym (k .setsAfter), j .indentationsAfter ∙ ap (λ (l : List ℕ). written l _) (same .2) ∙ sym (k .indentationsAfter))
+    let sets = j .setsAfter ∙ ap (λ (l : List ℕ). written l _) (same .1) ∙ sym (k .setsAfter) in
+    let indentations = j .indentationsAfter ∙ ap (λ (l : List ℕ). written l _) (same .2) ∙ sym (k .indentationsAfter) in
+    (same .0, λ i. record { sets = sets i; indentations = indentations i })
 
 -- a packer that refuses leaves the output as it was
 pub tree-packer-leaves : (productions out : List ℕ) (r : Packed) (after : List ℕ) → TreePacked productions out r after → (packedNumber r ≡ 0 → ⊥) → after ≡ out
@@ -67,10 +69,30 @@ head-is new old n e = take-at new (drop (length new) old) n e
 rest-is : (new old : List ℕ) (n : ℕ) → length new ≡ n → drop n (written new old) ≡ drop n old
 rest-is new old n e = drop-at new (drop (length new) old) n e ∙ ap (λ (m : ℕ). drop m old) e
 
-module _ {grammar tokens tree oldSets oldIndentations : List ℕ} {a : Answer} {newSets newIndentations : List ℕ}
-    (j : Judged grammar tokens tree oldSets oldIndentations a newSets newIndentations) where
+module _ {s : Images} {old new : Lists} {a : Answer} (j : Judged s old a new) where
+  abbrev grammar : List ℕ
+  grammar = s .grammar
+
+  abbrev tokens : List ℕ
+  tokens = s .tokens
+
+  abbrev tree : List ℕ
+  tree = s .tree
+
+  abbrev oldSets : List ℕ
+  oldSets = old .sets
+
+  abbrev oldIndentations : List ℕ
+  oldIndentations = old .indentations
+
+  abbrev newSets : List ℕ
+  newSets = new .sets
+
+  abbrev newIndentations : List ℕ
+  newIndentations = new .indentations
+
   abbrev first : Answer
-  first = firstRefusal (tests grammar tokens tree (length oldSets) (length oldIndentations))
+  first = firstRefusal (tests s (entriesOf old))
 
   abbrev D : ℕ
   D = nodeCount tree
@@ -79,26 +101,28 @@ module _ {grammar tokens tree oldSets oldIndentations : List ℕ} {a : Answer} {
   G = productionAt grammar
 
   below : first .number < 12
-  below = refusal-below grammar tokens tree (length oldSets) (length oldIndentations)
+  below = refusal-below s (entriesOf old)
 
   -- 1 to 11
-  pub refused-unchanged : 1 ≤ a .number → a .number ≤ 11 → (newSets ≡ oldSets) × (newIndentations ≡ oldIndentations)
+  pub refused-unchanged : 1 ≤ a .number → a .number ≤ 11 → new ≡ old
   refused-unchanged some few = by (eqb (first .number) 0) refl
     where
-      by : (b : Bool) → eqb (first .number) 0 ≡ b → (newSets ≡ oldSets) × (newIndentations ≡ oldIndentations)
+      by : (b : Bool) → eqb (first .number) 0 ≡ b → new ≡ old
       by true t =
           let twelve = verdicts.twelve _ _ _ _ _ (j .verdict) (eqb-true _ _ t) (λ z. omega arith) in
           absurd (omega arith)
       by false t =
           let same = verdicts.unchanged _ _ _ _ _ (j .verdict) (eqb-false _ _ t) in
-          (rw (j .setsAfter, same .1), rw (j .indentationsAfter, same .2))
+          let sets : newSets ≡ oldSets = rw (j .setsAfter, same .1) in
+          let indentations : newIndentations ≡ oldIndentations = rw (j .indentationsAfter, same .2) in
+          λ i. record { sets = sets i; indentations = indentations i }
 
   -- 0: images and room are right, and the nodes derive the tokens within the limit
-  pub zero-passed : a .number ≡ 0 → Fitting grammar tokens tree (length oldSets) (length oldIndentations) × DerivesIn grammar tokens tree
-  zero-passed z = all-passed grammar tokens tree (length oldSets) (length oldIndentations) (passed-zero (j .verdict) z)
+  pub zero-passed : a .number ≡ 0 → Fitting s (entriesOf old) × DerivesIn s
+  zero-passed z = all-passed s (entriesOf old) (passed-zero (j .verdict) z)
 
   -- both write the sets: low and high of the set of each node, and nothing behind them
-  module _ (passed : first .number ≡ 0) (d : DerivesIn grammar tokens tree) where
+  module _ (passed : first .number ≡ 0) (d : DerivesIn s) where
     stored : StoredSets G (subtrees (d .derives .tree)) (j .sets)
     stored = verdicts.sets-stored _ _ _ _ _ (j .verdict) passed (d .derives)
 
@@ -117,22 +141,22 @@ module _ {grammar tokens tree oldSets oldIndentations : List ℕ} {a : Answer} {
     sets-rest : drop (2 * D) newSets ≡ drop (2 * D) oldSets
     sets-rest = rw (j .setsAfter) (rest-is (j .sets) oldSets (2 * D) long)
 
-  pub sets-written : (a .number ≡ 0) ⊎ (a .number ≡ 12) → (d : DerivesIn grammar tokens tree)
+  pub sets-written : (a .number ≡ 0) ⊎ (a .number ≡ 12) → (d : DerivesIn s)
       × ((n : ℕ) → n < D → Stored (SetOf G (d .derives .tree) n) (getD newSets (2 * n) 0) (getD newSets (2 * n + 1) 0)) × (drop (2 * D) newSets ≡ drop (2 * D) oldSets)
   sets-written e =
       let passed : first .number ≡ 0 = ⊎-elim (passed-zero (j .verdict)) (passed-twelve (j .verdict) below) e in
-      let d = all-passed grammar tokens tree (length oldSets) (length oldIndentations) passed .1 in
+      let d = all-passed s (entriesOf old) passed .1 in
       (d, sets-say passed d, sets-rest passed d)
 
   -- 12: the place is the highest-numbered node with an empty set, and the indentations are left
-  pub twelve-says : a .number ≡ 12 → (newIndentations ≡ oldIndentations) × (d : DerivesIn grammar tokens tree) × HighestEmpty G (d .derives .tree) (a .place)
+  pub twelve-says : a .number ≡ 12 → (newIndentations ≡ oldIndentations) × (d : DerivesIn s) × HighestEmpty G (d .derives .tree) (a .place)
   twelve-says z =
       let passed = passed-twelve (j .verdict) below z in
       let said = verdicts.twelve _ _ _ _ _ (j .verdict) passed (λ y. omega arith) in
-      let d = all-passed grammar tokens tree (length oldSets) (length oldIndentations) passed .1 in
+      let d = all-passed s (entriesOf old) passed .1 in
       (rw (j .indentationsAfter, said .1), d, said .2 (d .derives))
 
-  module _ (z : a .number ≡ 0) (d : DerivesIn grammar tokens tree) where
+  module _ (z : a .number ≡ 0) (d : DerivesIn s) where
     least : Least G (d .derives .tree) (j .indentations)
     least =
         let lays = verdicts.accepted-lays _ _ _ _ _ (j .verdict) z in
@@ -149,19 +173,19 @@ module _ {grammar tokens tree oldSets oldIndentations : List ℕ} {a : Answer} {
     )
 
   -- images, room and derivation are right, and all relations can hold: accepted
-  pub chosen-zero : Fitting grammar tokens tree (length oldSets) (length oldIndentations) → (d : DerivesIn grammar tokens tree) (C : Choice) → Laid G (d .derives .tree) C → a ≡ answer 0 0
-  chosen-zero f d = verdicts.chosen-accepted _ _ _ _ _ (j .verdict) (none-refuses grammar tokens tree _ _ f d) (d .derives)
+  pub chosen-zero : Fitting s (entriesOf old) → (d : DerivesIn s) (C : Choice) → Laid G (d .derives .tree) C → a ≡ answer 0 0
+  chosen-zero f d = verdicts.chosen-accepted _ _ _ _ _ (j .verdict) (none-refuses s _ f d) (d .derives)
 
   -- accepted: so it is
-  pub zero-chosen : a .number ≡ 0 → Fitting grammar tokens tree (length oldSets) (length oldIndentations) × (d : DerivesIn grammar tokens tree) × (C : Choice) × Laid G (d .derives .tree) C
+  pub zero-chosen : a .number ≡ 0 → Fitting s (entriesOf old) × (d : DerivesIn s) × (C : Choice) × Laid G (d .derives .tree) C
   zero-chosen z =
       let both = zero-passed z in
       let l = least z (both .1) in
       (both .0, both .1, l .choice, l .laid)
 
   -- refused although it derives: no choice exists
-  pub refused-unlaid : Fitting grammar tokens tree (length oldSets) (length oldIndentations) → (d : DerivesIn grammar tokens tree) → (a .number ≡ 0 → ⊥) → (C : Choice) → Laid G (d .derives .tree) C → ⊥
-  refused-unlaid f d other = verdicts.none-chosen _ _ _ _ _ (j .verdict) (none-refuses grammar tokens tree _ _ f d) other (d .derives)
+  pub refused-unlaid : Fitting s (entriesOf old) → (d : DerivesIn s) → (a .number ≡ 0 → ⊥) → (C : Choice) → Laid G (d .derives .tree) C → ⊥
+  refused-unlaid f d other = verdicts.none-chosen _ _ _ _ _ (j .verdict) (none-refuses s _ f d) other (d .derives)
 
   -- no indentation is above the limit
   pub zero-small : a .number ≡ 0 → (n : ℕ) → n < D → getD newIndentations n 0 ≤ maxIndentation

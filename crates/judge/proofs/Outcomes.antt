@@ -5,6 +5,7 @@ use Prim.Native.Nat.{ℕ, _*_, _-_, _<_, _≤_}
 use native.Mathlib.Nat.{zero-add}
 use native.Mathlib.Omega.{arith}
 use lib.ListN.{length}
+use Rattle.fields.specs.Images.{Images}
 use Rattle.rules.specs.Limits.{maxColumn}
 use Rattle.rules.specs.Grammar.{Token, ColumnsUpTo}
 use Rattle.rules.specs.Tree.{Tree}
@@ -27,7 +28,7 @@ use Rattle.layout.specs.Passes.{writtenAt, NodePassed, AllUpTo, NodeGiven}
 use Rattle.layout.specs.declared.sets.Passed.{Passed}
 use Rattle.layout.proofs.LeastNumbers.{up-to}
 use Rattle.layout.proofs.HighestEmpty.{highest-append}
-use Rattle.judge.specs.Judged.{tests, firstRefusal, Fitting, DerivesIn, written, Judged}
+use Rattle.judge.specs.Judged.{Lists, entriesOf, tests, firstRefusal, Fitting, DerivesIn, lists, written, Judged}
 use Rattle.judge.proofs.Passed.{all-passed}
 
 -- entries written from the first index on are written at the head
@@ -35,12 +36,27 @@ written-head : (new old : List ℕ) → writtenAt 0 new old ≡ written new old
 unfolding writtenAt
 written-head new old = rw (zero-add (length new))
 
-module _ (grammar tokenImage tree : List ℕ) (oldSets oldIndentations : List ℕ) where
+module _ (s : Images) (old : Lists) where
+  abbrev grammar : List ℕ
+  grammar = s .grammar
+
+  abbrev tokenImage : List ℕ
+  tokenImage = s .tokens
+
+  abbrev tree : List ℕ
+  tree = s .tree
+
+  abbrev oldSets : List ℕ
+  oldSets = old .sets
+
+  abbrev oldIndentations : List ℕ
+  oldIndentations = old .indentations
+
   abbrev first : Answer
-  first = firstRefusal (tests grammar tokenImage tree (length oldSets) (length oldIndentations))
+  first = firstRefusal (tests s (entriesOf old))
 
   -- 1 to 11
-  pub refused-judged : {a : Answer} → a ≡ first → (a .number ≡ 0 → ⊥) → Judged grammar tokenImage tree oldSets oldIndentations a oldSets oldIndentations
+  pub refused-judged : {a : Answer} → a ≡ first → (a .number ≡ 0 → ⊥) → Judged s old a old
   refused-judged e some = rw e (record {
     sets = [];
     indentations = [];
@@ -51,11 +67,11 @@ module _ (grammar tokenImage tree : List ℕ) (oldSets oldIndentations : List �
 
   -- no test refuses
   module _ (passed : first .number ≡ 0) where
-    fitting : Fitting grammar tokenImage tree (length oldSets) (length oldIndentations)
-    fitting = all-passed grammar tokenImage tree (length oldSets) (length oldIndentations) passed .0
+    fitting : Fitting s (entriesOf old)
+    fitting = all-passed s (entriesOf old) passed .0
 
-    within : DerivesIn grammar tokenImage tree
-    within = all-passed grammar tokenImage tree (length oldSets) (length oldIndentations) passed .1
+    within : DerivesIn s
+    within = all-passed s (entriesOf old) passed .1
 
     -- there is room for both lists
     pub room-for-sets : 2 * nodeCount tree ≤ length oldSets
@@ -68,7 +84,7 @@ module _ (grammar tokenImage tree : List ℕ) (oldSets oldIndentations : List �
     abbrev T : Tree
     T = within .derives .tree
 
-    stands : TreeIn grammar tokenImage tree 0 0 T
+    stands : TreeIn s 0 0 T
     stands = record {
       left = startNonterminal grammar;
       right = within .derives .right;
@@ -78,7 +94,7 @@ module _ (grammar tokenImage tree : List ℕ) (oldSets oldIndentations : List �
       read = sym (append-nil (tokens T) ∙ within .derives .read);
     }
 
-    pub some-tree : SomeTree grammar tokenImage tree 0 0
+    pub some-tree : SomeTree s 0 0
     some-tree = record { there = T; stands = stands }
 
     pub some-tree-listed : SomeTreeListed grammar tree 0
@@ -88,13 +104,13 @@ module _ (grammar tokenImage tree : List ℕ) (oldSets oldIndentations : List �
     columns = columns-kept (terminalCount grammar) tokenImage (fitting .tokensFormed)
 
     -- the set pass has gone over it
-    module _ {newSets : List ℕ} {root : Passed} (sets-laid : (T : Tree) → TreeIn grammar tokenImage tree 0 0 T → NodePassed grammar T 0 0 oldSets newSets root) where
+    module _ {newSets : List ℕ} {root : Passed} (sets-laid : (T : Tree) → TreeIn s 0 0 T → NodePassed grammar T 0 0 oldSets newSets root) where
       sets-written : newSets ≡ written (setsOf (productionAt grammar) unbounded T) oldSets
       sets-written = sets-laid T stands .sets ∙ written-head _ oldSets
 
       -- 12
       pub empty-judged : {n count : ℕ} → root .set .high < root .set .low → count ≡ nodeCount tree → n ≡ highestEmpty newSets count →
-          Judged grammar tokenImage tree oldSets oldIndentations (answer 12 n) newSets oldIndentations
+          Judged s old (answer 12 n) (lists newSets oldIndentations)
       empty-judged crossed counted found =
           let sets = setsOf (productionAt grammar) unbounded T in
           let many : 2 * length (nodesOf tree) ≤ length sets = omega (arith, length-sets (productionAt grammar) unbounded T, ap length (within .derives .listed)) in
@@ -127,7 +143,7 @@ module _ (grammar tokenImage tree : List ℕ) (oldSets oldIndentations : List �
 
         -- 0
         pub accepted-judged : {newIndentations : List ℕ} {next : ℕ} → ((ts : List Token) (k : ℕ) (T : Tree) → TreeListed grammar tree ts 0 k T → NodeGiven grammar T 0 (root .set .low) newSets oldIndentations newIndentations next) →
-            Judged grammar tokenImage tree oldSets oldIndentations (answer 0 0) newSets newIndentations
+            Judged s old (answer 0 0) (lists newSets newIndentations)
         accepted-judged {newIndentations} given =
             let lowest : root .set .low ≡ setOf (productionAt grammar) unbounded T .low = rw (sets-laid T stands .set) in
             let numbers = (rw lowest at given (tokensOf tokenImage) 0 T stands) .given _ sets-written numbers-fit in

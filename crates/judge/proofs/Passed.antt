@@ -7,6 +7,7 @@ use Prim.Native.Nat.{ℕ, _*_, _<_, _≤_}
 use native.Mathlib.Omega.{arith}
 use lib.Dec.{eqb, ltb}
 use borrow.Author.Tests.{eqb-true, ltb-false, le-ltb}
+use Rattle.fields.specs.Images.{Images}
 use Rattle.rules.specs.Walk.{Answer, answer}
 use Rattle.rules.proofs.Refusals.{answers, derived, derives-answered}
 use Rattle.fields.specs.declared.Checked.{Checked}
@@ -18,7 +19,7 @@ use Rattle.token_image.specs.TokenImage.{tokensOf, tokenFields}
 use Rattle.tree_image.specs.TreeImage.{nodeCount, nodesOf, treeFields}
 use Rattle.fields.proofs.Promised.{good-well-formed, well-formed-good}
 use Rattle.derive.specs.Images.{walkIn}
-use Rattle.judge.specs.Judged.{checked, room, tests, firstRefusal, Fitting, DerivesIn}
+use Rattle.judge.specs.Judged.{Entries, checked, room, tests, firstRefusal, Fitting, DerivesIn}
 
 -- where no test refuses, the first does not and no later one does
 first-passed : (a : Answer) (later : List Answer) → firstRefusal (a ∷ later) .number ≡ 0 → (a .number ≡ 0) × (firstRefusal later .number ≡ 0)
@@ -68,17 +69,26 @@ room-there needed there e = by (ltb there needed) refl e
     by true t e = absurd (omega arith)
     by false t e = ltb-false _ _ t
 
-module _ (grammar tokens tree : List ℕ) (sets indentations : ℕ) where
+module _ (s : Images) (lent : Entries) where
+  abbrev grammar : List ℕ
+  grammar = s .grammar
+
+  abbrev tokens : List ℕ
+  tokens = s .tokens
+
+  abbrev tree : List ℕ
+  tree = s .tree
+
   -- no test refuses: images, room and derivation are right
-  pub all-passed : firstRefusal (tests grammar tokens tree sets indentations) .number ≡ 0 → Fitting grammar tokens tree sets indentations × DerivesIn grammar tokens tree
+  pub all-passed : firstRefusal (tests s lent) .number ≡ 0 → Fitting s lent × DerivesIn s
   unfolding tests
   all-passed e =
       let one = first-passed (checked 1 (firstFault (grammarFields grammar))) _ e in
       let two = first-passed (checked 2 (firstFault (tokenFields (terminalCount grammar) tokens))) _ (one .1) in
       let three = first-passed (checked 3 (firstFault (treeFields (productionCount grammar) tree))) _ (two .1) in
-      let four = first-passed (room (2 * nodeCount tree) sets) _ (three .1) in
-      let too = first-passed (room (nodeCount tree) indentations) _ (four .1) in
-      let walked = first-passed (walkIn grammar tokens tree) _ (too .1) in (
+      let four = first-passed (room (2 * nodeCount tree) (lent .sets)) _ (three .1) in
+      let too = first-passed (room (nodeCount tree) (lent .indentations)) _ (four .1) in
+      let walked = first-passed (walkIn s) _ (too .1) in (
         record {
           grammarFormed = good-well-formed _ (checked-good 1 _ (λ z. omega arith) (one .0));
           tokensFormed = good-well-formed _ (checked-good 2 _ (λ z. omega arith) (two .0));
@@ -90,32 +100,32 @@ module _ (grammar tokens tree : List ℕ) (sets indentations : ℕ) where
       )
 
   -- what the tests refuse with is below 12
-  pub refusal-below : firstRefusal (tests grammar tokens tree sets indentations) .number < 12
+  pub refusal-below : firstRefusal (tests s lent) .number < 12
   unfolding tests AllBelow
   refusal-below =
-      first-below (tests grammar tokens tree sets indentations) 12 (omega arith) (
+      first-below (tests s lent) 12 (omega arith) (
         checked-below 1 12 (firstFault (grammarFields grammar)) (omega arith),
         (
           checked-below 2 12 (firstFault (tokenFields (terminalCount grammar) tokens)) (omega arith),
           (
             checked-below 3 12 (firstFault (treeFields (productionCount grammar) tree)) (omega arith),
-            (room-below (2 * nodeCount tree) sets, (room-below (nodeCount tree) indentations, (walk-below, tt))),
+            (room-below (2 * nodeCount tree) (lent .sets), (room-below (nodeCount tree) (lent .indentations), (walk-below, tt))),
           ),
         ),
       )
     where
-      walk-below : walkIn grammar tokens tree .number < 12
+      walk-below : walkIn s .number < 12
       walk-below = ⊎-elim (λ e. omega arith) (λ e. omega arith) (answers (productionAt grammar) (startNonterminal grammar) (nodesOf tree) (tokensOf tokens))
 
   -- images, room and derivation are right: no test refuses
-  pub none-refuses : Fitting grammar tokens tree sets indentations → DerivesIn grammar tokens tree → firstRefusal (tests grammar tokens tree sets indentations) .number ≡ 0
+  pub none-refuses : Fitting s lent → DerivesIn s → firstRefusal (tests s lent) .number ≡ 0
   unfolding tests firstRefusal room
   none-refuses f d =
       rw (
         ← well-formed-good (grammarFields grammar) (f .grammarFormed),
         ← well-formed-good (tokenFields (terminalCount grammar) tokens) (f .tokensFormed),
         ← well-formed-good (treeFields (productionCount grammar) tree) (f .treeFormed),
-        le-ltb sets (2 * nodeCount tree) (f .setsRoom),
-        le-ltb indentations (nodeCount tree) (f .indentationsRoom),
+        le-ltb (lent .sets) (2 * nodeCount tree) (f .setsRoom),
+        le-ltb (lent .indentations) (nodeCount tree) (f .indentationsRoom),
         derives-answered (productionAt grammar) (startNonterminal grammar) (nodesOf tree) (tokensOf tokens) d,
       )

@@ -5,6 +5,7 @@ use mathlib.Core.List.{List}
 use Prim.Native.Nat.{ℕ, _*_, _<_, _≤_}
 use lib.Dec.{eqb}
 use borrow.Author.Tests.{lt-ltb, le-ltb}
+use Rattle.fields.specs.Images.{images}
 use Rattle.rules.specs.Walk.{Answer, answer}
 use Rattle.fields.specs.declared.Checked.{Checked}
 use Rattle.fields.specs.declared.Checked.the-variants.{Good, Fault}
@@ -16,7 +17,7 @@ use Rattle.derive.specs.declared.Refusal.{Refusal}
 use Rattle.derive.specs.declared.Refusal.the-variants.{WrongNode, NodesEnd, WrongToken, TokensEnd, TooDeep, NodesRemain, TokensRemain}
 use Rattle.derive.specs.Answers.{refusalAnswer}
 use Rattle.derive.specs.Images.{walkIn}
-use Rattle.judge.specs.Judged.{room, tests, firstRefusal}
+use Rattle.judge.specs.Judged.{entries, room, tests, firstRefusal}
 
 -- a refusal of the walk has a number other than 0
 walk-refusal : (r : Refusal) (later : Answer) → cond (eqb (refusalAnswer r .number) 0) later (refusalAnswer r) ≡ refusalAnswer r
@@ -31,7 +32,7 @@ walk-refusal (TokensRemain n) later = refl
 module _ (grammar tokens tree : List ℕ) (sets indentations : ℕ) where
   -- the first refusal
   abbrev first : Answer
-  first = firstRefusal (tests grammar tokens tree sets indentations)
+  first = firstRefusal (tests (images grammar tokens tree) (entries sets indentations))
 
   pub grammar-refused : {byte : ℕ} {r : Checked} → r ≡ firstFault (grammarFields grammar) → r ≡ Fault byte → answer 1 byte ≡ first
   unfolding firstRefusal tests
@@ -58,10 +59,10 @@ module _ (grammar tokens tree : List ℕ) (sets indentations : ℕ) where
           indentations-refused n h = rw (← one, ← two, ← three, le-ltb sets _ enough, ← n, lt-ltb indentations _ h)
 
           module _ (too : nodeCount tree ≤ indentations) where
-            pub walk-refused : (r : Refusal) → refusalAnswer r ≡ walkIn grammar tokens tree → refusalAnswer r ≡ first
+            pub walk-refused : (r : Refusal) → refusalAnswer r ≡ walkIn (images grammar tokens tree) → refusalAnswer r ≡ first
             unfolding firstRefusal tests room
             walk-refused r e = rw (← one, ← two, ← three, le-ltb sets _ enough, le-ltb indentations _ too, ← e) (sym (walk-refusal r (answer 0 0)))
 
-            pub none-refused : answer 0 0 ≡ walkIn grammar tokens tree → answer 0 0 ≡ first
+            pub none-refused : answer 0 0 ≡ walkIn (images grammar tokens tree) → answer 0 0 ≡ first
             unfolding firstRefusal tests room
             none-refused e = rw (← one, ← two, ← three, le-ltb sets _ enough, le-ltb indentations _ too, ← e)

@@ -1,4 +1,4 @@
--- "What comes back": the table of document 01 for every content of the three images and every length of the two lent lists.
+-- "What comes back": the table of document 01, for every content of the three images and every length of the two lists.
 use mathlib.Core.Path.{_≡_}
 use mathlib.Core.Bool.{cond}
 use mathlib.Core.List.{List, [], _∷_, _++_}
@@ -12,11 +12,32 @@ use Rattle.rules.specs.Verdict.{Verdict}
 use Rattle.fields.specs.declared.Checked.{Checked}
 use Rattle.fields.specs.Answers.{checkedNumber, checkedPlace}
 use Rattle.fields.specs.Fields.{WellFormed, firstFault}
-use Rattle.grammar_image.specs.GrammarImage.{terminalCount, productionCount, startNonterminal, productionAt, grammarFields}
+use Rattle.fields.specs.Images.{Images}
+use Rattle.grammar_image.specs.GrammarImage.{terminalCount, productionCount, startNonterminal, productionAt}
+use Rattle.grammar_image.specs.GrammarImage.{grammarFields}
 use Rattle.token_image.specs.TokenImage.{tokensOf, tokenFields}
 use Rattle.tree_image.specs.TreeImage.{nodeCount, nodesOf, treeFields}
 use Rattle.derive.specs.Images.{walkIn}
 use Rattle.judge.specs.declared.Answer.{Answer as AnswerGiven}
+
+-- "two lent lists of 32-bit numbers": what they hold
+pub record Lists : Type 0 where
+  pub sets : List ℕ
+  pub indentations : List ℕ
+
+abbrev pub lists : List ℕ → List ℕ → Lists
+lists sets indentations = record { sets = sets; indentations = indentations }
+
+-- and how many entries they have
+pub record Entries : Type 0 where
+  pub sets : ℕ
+  pub indentations : ℕ
+
+abbrev pub entries : ℕ → ℕ → Entries
+entries sets indentations = record { sets = sets; indentations = indentations }
+
+abbrev pub entriesOf : Lists → Entries
+entriesOf l = entries (length (l .sets)) (length (l .indentations))
 
 -- the number and the place that the check gives
 abbrev pub given : AnswerGiven → Answer
@@ -30,15 +51,15 @@ checked refusal c = answer (checkedNumber refusal c) (checkedPlace c)
 unfoldable pub room : ℕ → ℕ → Answer
 room needed there = cond (ltb there needed) (answer 4 needed) (answer 0 0)
 
--- "Tests run in the order of the table", 5 to 11 in one walk; each gives its refusal, or number 0. The lent lists have so many entries
-unfoldable pub tests : List ℕ → List ℕ → List ℕ → ℕ → ℕ → List Answer
-tests grammar tokens tree sets indentations =
-    checked 1 (firstFault (grammarFields grammar))
-    ∷ checked 2 (firstFault (tokenFields (terminalCount grammar) tokens))
-    ∷ checked 3 (firstFault (treeFields (productionCount grammar) tree))
-    ∷ room (2 * nodeCount tree) sets
-    ∷ room (nodeCount tree) indentations
-    ∷ walkIn grammar tokens tree
+-- "Tests run in the order of the table", 5 to 11 in one walk; each gives its refusal, or number 0
+unfoldable pub tests : Images → Entries → List Answer
+tests s lent =
+    checked 1 (firstFault (grammarFields (s .grammar)))
+    ∷ checked 2 (firstFault (tokenFields (terminalCount (s .grammar)) (s .tokens)))
+    ∷ checked 3 (firstFault (treeFields (productionCount (s .grammar)) (s .tree)))
+    ∷ room (2 * nodeCount (s .tree)) (lent .sets)
+    ∷ room (nodeCount (s .tree)) (lent .indentations)
+    ∷ walkIn s
     ∷ []
 
 -- the first test that refuses; number 0 where none does
@@ -47,26 +68,28 @@ firstRefusal [] = answer 0 0
 firstRefusal (a ∷ later) = cond (eqb (a .number) 0) (firstRefusal later) a
 
 -- "With well-formed images, room": what the tests 1 to 4 ask
-pub record Fitting (grammar tokens tree : List ℕ) (sets indentations : ℕ) : Type 0 where
-  pub grammarFormed : WellFormed (grammarFields grammar)
-  pub tokensFormed : WellFormed (tokenFields (terminalCount grammar) tokens)
-  pub treeFormed : WellFormed (treeFields (productionCount grammar) tree)
-  pub setsRoom : 2 * nodeCount tree ≤ sets
-  pub indentationsRoom : nodeCount tree ≤ indentations
+pub record Fitting (s : Images) (lent : Entries) : Type 0 where
+  pub grammarFormed : WellFormed (grammarFields (s .grammar))
+  pub tokensFormed : WellFormed (tokenFields (terminalCount (s .grammar)) (s .tokens))
+  pub treeFormed : WellFormed (treeFields (productionCount (s .grammar)) (s .tree))
+  pub setsRoom : 2 * nodeCount (s .tree) ≤ lent .sets
+  pub indentationsRoom : nodeCount (s .tree) ≤ lent .indentations
 
 -- the nodes of the tree image derive all tokens of the token image, by "a tree at most 256 deep"
-abbrev pub DerivesIn : List ℕ → List ℕ → List ℕ → Type 0
-DerivesIn grammar tokens tree = DerivesWithin maxDepth (productionAt grammar) (startNonterminal grammar) (nodesOf tree) (tokensOf tokens)
+abbrev pub DerivesIn : Images → Type 0
+DerivesIn s =
+    DerivesWithin maxDepth (productionAt (s .grammar)) (startNonterminal (s .grammar)) (nodesOf (s .tree))
+    (tokensOf (s .tokens))
 
 -- a list with entries written at its head; "Entries beyond those named never change"
 abbrev pub written : List ℕ → List ℕ → List ℕ
 written new old = new ++ drop (length new) old
 
 -- what the check gives and leaves: number and place, and what each list holds, by what it held
-pub record Judged (grammar tokens tree oldSets oldIndentations : List ℕ) (a : Answer) (newSets newIndentations : List ℕ) : Type 0 where
+pub record Judged (s : Images) (old : Lists) (a : Answer) (new : Lists) : Type 0 where
   pub sets : List ℕ
   pub indentations : List ℕ
-  pub verdict : Verdict (productionAt grammar) (startNonterminal grammar) (nodesOf tree) (tokensOf tokens)
-      (firstRefusal (tests grammar tokens tree (length oldSets) (length oldIndentations))) a sets indentations
-  pub setsAfter : newSets ≡ written sets oldSets
-  pub indentationsAfter : newIndentations ≡ written indentations oldIndentations
+  pub verdict : Verdict (productionAt (s .grammar)) (startNonterminal (s .grammar)) (nodesOf (s .tree))
+      (tokensOf (s .tokens)) (firstRefusal (tests s (entriesOf old))) a sets indentations
+  pub setsAfter : new .sets ≡ written sets (old .sets)
+  pub indentationsAfter : new .indentations ≡ written indentations (old .indentations)

@@ -53,7 +53,8 @@ pub record Sheet : Type 0 where
   pub indentations : List ℕ
 
 abbrev pub trial : List Token → List ℕ → Answer → List ℕ → Sheet
-trial tokens nodes answer indentations = record { tokens = tokens; nodes = nodes; answer = answer; indentations = indentations }
+trial tokens nodes answer indentations =
+    record { tokens = tokens; nodes = nodes; answer = answer; indentations = indentations }
 
 -- the tree of A
 abbrev treeA : List ℕ
@@ -81,7 +82,8 @@ starred =
 -- answer and indentations of a row are the verdict on its sheet, with some sets
 pub record SheetJudged (sheet : Sheet) : Type 0 where
   pub sets : List ℕ
-  pub verdict : Verdict trialGrammar 0 (sheet .nodes) (sheet .tokens) (walk trialGrammar (sheet .nodes) (sheet .tokens) 0) (sheet .answer) sets (sheet .indentations)
+  pub verdict : Verdict trialGrammar 0 (sheet .nodes) (sheet .tokens)
+      (walk trialGrammar (sheet .nodes) (sheet .tokens) 0) (sheet .answer) sets (sheet .indentations)
 
 infixr 5 _also_
 -- P is true of each element

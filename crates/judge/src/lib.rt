@@ -5,22 +5,25 @@ use derive::derive;
 use fields::Checked;
 use grammar_image::check_grammar;
 use grammar_image::counts_at;
+use layout::sets::highest_empty;
 use token_image::check_tokens;
 use tree_image::check_tree;
 use tree_image::node_count;
-use layout::sets::highest_empty;
 ghost use mathlib.Core.Path.{_≡_};
-ghost use Rattle.judge.specs.Judged.{Judged, given, tests, firstRefusal};
+ghost use Rattle.fields.specs.Images.{images};
+ghost use Rattle.judge.specs.Judged.{Judged, lists, entries, given, tests, firstRefusal};
 
 // What the check answers: document 01's number and place.
 pub struct Answer {
     pub number: u8,
-    pub place: usize,
+    pub place: u32,
 }
 
 // The first refusal among 1 to 11, for lists of so many entries; number 0 where there is none.
 fn refusal(grammar: &[u8], tokens: &[u8], tree: &[u8], sets: usize, indentations: usize) -> Answer
-    ensures { λ r. ⌜ given r ≡ firstRefusal (tests (now (grammar .entry)) (now (tokens .entry)) (now (tree .entry)) sets indentations) ⌝ }
+    ensures { λ r. ⌜ given r
+        ≡ firstRefusal (tests (images (now (grammar .entry)) (now (tokens .entry)) (now (tree .entry)))
+        (entries sets indentations)) ⌝ }
 {
     let checked = check_grammar(grammar);
     if let Checked::Fault(byte) = checked {
@@ -48,20 +51,20 @@ fn refusal(grammar: &[u8], tokens: &[u8], tree: &[u8], sets: usize, indentations
     if sets < 2 * nodes {
         return Answer {
             number: 4,
-            place: 2 * nodes,
+            place: (2 * nodes) as u32,
         };
     }
     if indentations < nodes {
         return Answer {
             number: 4,
-            place: nodes,
+            place: nodes as u32,
         };
     }
     let derivation = derive(grammar, tokens, tree);
     if let Derivation::Refused(refused) = derivation {
         return Answer {
             number: refused.number(),
-            place: refused.place() as usize,
+            place: refused.place() as u32,
         };
     }
     Answer {
@@ -82,7 +85,10 @@ pub fn check(
     sets: &mut [u32],
     indentations: &mut [u32],
 ) -> Answer
-    ensures { λ r. ⌜ Judged (now (grammar .entry)) (now (tokens .entry)) (now (tree .entry)) (now (sets .entry)) (now (indentations .entry)) (given r) (now (sets .exit)) (now (indentations .exit)) ⌝ }
+    ensures { λ r. ⌜ Judged (images (now (grammar .entry)) (now (tokens .entry)) (now (tree .entry)))
+        (lists (now (sets .entry)) (now (indentations .entry)))
+        (given r)
+        (lists (now (sets .exit)) (now (indentations .exit))) ⌝ }
 {
     let first = refusal(grammar, tokens, tree, sets.len(), indentations.len());
     if first.number != 0 {
@@ -93,7 +99,7 @@ pub fn check(
         let node = highest_empty(sets, node_count(tree));
         return Answer {
             number: 12,
-            place: node as usize,
+            place: node as u32,
         };
     }
     layout::indentations::node(grammar, tree, sets, indentations, 0, root.set.low);

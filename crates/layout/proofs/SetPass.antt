@@ -4,6 +4,7 @@ use mathlib.Core.List.{List, [], _∷_}
 use Prim.Native.Nat.{ℕ, _+_, _*_, _-_, _<_, _≤_}
 use native.Mathlib.Omega.{arith}
 use lib.ListN.{length, getD, length-append}
+use Rattle.fields.specs.Images.{images}
 use Rattle.rules.specs.Grammar.{Symbol}
 use Rattle.rules.specs.Tree.{Tree, node, Row, token, child}
 use Rattle.rules.specs.Derivation.{nodes, rowNodes, tokens, rowTokens}
@@ -39,15 +40,15 @@ module _ (grammar tokenImage tree : List ℕ) where
   ChildIn = ChildFirst (productionAt grammar) (nodesOf tree) (tokensOf tokenImage)
 
   module _ {p y to n k : ℕ} {r : ProductionRead} (here : p ≡ nodeAt tree n) (read : ProductionIs grammar p r) (first : y ≡ r .first) (last : to ≡ r .first + r .count) where
-    behind : (T : Tree) → OpenedIn n k T → SomeRow grammar tokenImage tree (symbols grammar y to) (n + 1) k
+    behind : (T : Tree) → OpenedIn n k T → SomeRow (images grammar tokenImage tree) (symbols grammar y to) (n + 1) k
     behind T (opened R h at) = record { there = R; stands = rw (← row-symbols grammar tree n h here read first last) at }
 
     -- where a tree stands, its row stands behind its node
-    pub row-behind : SomeTree grammar tokenImage tree n k → SomeRow grammar tokenImage tree (symbols grammar y to) (n + 1) k
+    pub row-behind : SomeTree (images grammar tokenImage tree) n k → SomeRow (images grammar tokenImage tree) (symbols grammar y to) (n + 1) k
     row-behind s = behind (s .there) (tree-opened _ _ _ n k (s .there) (s .stands))
 
     module _ {S : Set} {old new final : List ℕ} {passed : Passed} (all : S ≡ allSet unbounded) (room : 2 * nodeCount tree ≤ length old)
-        (row : (R : Row) → RowIn grammar tokenImage tree (symbols grammar y to) (n + 1) k R → RowPassed grammar R (symbols grammar y to) S (n + 1) k old new passed)
+        (row : (R : Row) → RowIn (images grammar tokenImage tree) (symbols grammar y to) (n + 1) k R → RowPassed grammar R (symbols grammar y to) S (n + 1) k old new passed)
         (stored : final ≡ writtenAt (2 * n) (passed .set .low ∷ passed .set .high ∷ []) new) where
       opened-passed : (T : Tree) → OpenedIn n k T → NodePassed grammar T n k old final passed
       unfolding setOf setsOf nodes tokens
@@ -65,12 +66,12 @@ module _ (grammar tokenImage tree : List ℕ) where
           }
 
       -- the set of a node is what its row leaves of all whole numbers, and it is stored before those of its row
-      pub node-passed : (T : Tree) → TreeIn grammar tokenImage tree n k T → NodePassed grammar T n k old final passed
+      pub node-passed : (T : Tree) → TreeIn (images grammar tokenImage tree) n k T → NodePassed grammar T n k old final passed
       node-passed T s = opened-passed T (tree-opened _ _ _ n k T s)
 
   -- no symbol is left: the set stays, and nothing is written
   pub row-end-passed : {y to n k : ℕ} {S : Set} {old : List ℕ} {passed : Passed} → to ≤ y → passed .set ≡ S → passed .node ≡ n → passed .token ≡ k →
-      (R : Row) → RowIn grammar tokenImage tree (symbols grammar y to) n k R → RowPassed grammar R (symbols grammar y to) S n k old old passed
+      (R : Row) → RowIn (images grammar tokenImage tree) (symbols grammar y to) n k R → RowPassed grammar R (symbols grammar y to) S n k old old passed
   unfolding rowSet rowSets rowNodes rowTokens
   row-end-passed {y} {to} {n} {k} {S} {old} none set e f R at =
       let over = row-none (symbolAt grammar) y to none in
@@ -84,22 +85,22 @@ module _ (grammar tokenImage tree : List ℕ) where
   module _ {y to n k : ℕ} {s : SymbolRead} (more : y < to) (symbol : SymbolIs grammar y s) where
     -- a terminal: the token that is next
     module _ (terminal : s .kind ≡ 0) where
-      after-token : (R : Row) → TokenIn (symbols grammar (y + 1) to) n k R → SomeRow grammar tokenImage tree (symbols grammar (y + 1) to) n (k + 1)
+      after-token : (R : Row) → TokenIn (symbols grammar (y + 1) to) n k R → SomeRow (images grammar tokenImage tree) (symbols grammar (y + 1) to) n (k + 1)
       after-token R (tokenFirst rest h at) = record { there = rest; stands = at }
 
       token-there : {R : Row} → TokenIn (symbols grammar (y + 1) to) n k R → k < tokenCount tokenImage
       token-there (tokenFirst rest h at) = omega (arith, length-tokens tokenImage)
 
       -- so there is a token k
-      pub token-within : SomeRow grammar tokenImage tree (symbols grammar y to) n k → k < tokenCount tokenImage
+      pub token-within : SomeRow (images grammar tokenImage tree) (symbols grammar y to) n k → k < tokenCount tokenImage
       token-within r = token-there (token-in grammar tree more symbol terminal (r .there) (r .stands))
 
       -- the rest of the row stands behind it
-      pub row-after-token : SomeRow grammar tokenImage tree (symbols grammar y to) n k → SomeRow grammar tokenImage tree (symbols grammar (y + 1) to) n (k + 1)
+      pub row-after-token : SomeRow (images grammar tokenImage tree) (symbols grammar y to) n k → SomeRow (images grammar tokenImage tree) (symbols grammar (y + 1) to) n (k + 1)
       row-after-token r = after-token (r .there) (token-in grammar tree more symbol terminal (r .there) (r .stands))
 
       module _ {t : TokenRead} {S left : Set} {old new : List ℕ} {passed : Passed} (read : TokenIs tokenImage k t) (leaves : left ≡ meet S (tokenLeaves unbounded (s .relation) (t .column)))
-          (rest : (R : Row) → RowIn grammar tokenImage tree (symbols grammar (y + 1) to) n (k + 1) R → RowPassed grammar R (symbols grammar (y + 1) to) left n (k + 1) old new passed) where
+          (rest : (R : Row) → RowIn (images grammar tokenImage tree) (symbols grammar (y + 1) to) n (k + 1) R → RowPassed grammar R (symbols grammar (y + 1) to) left n (k + 1) old new passed) where
         first-token : (R : Row) → TokenIn (symbols grammar (y + 1) to) n k R → RowPassed grammar R (symbols grammar y to) S n k old new passed
         unfolding rowSet rowSets rowNodes rowTokens
         first-token R (tokenFirst later h at) =
@@ -113,20 +114,20 @@ module _ (grammar tokenImage tree : List ℕ) where
             })
 
         -- it is met before the rest of the row
-        pub token-passed : (R : Row) → RowIn grammar tokenImage tree (symbols grammar y to) n k R → RowPassed grammar R (symbols grammar y to) S n k old new passed
+        pub token-passed : (R : Row) → RowIn (images grammar tokenImage tree) (symbols grammar y to) n k R → RowPassed grammar R (symbols grammar y to) S n k old new passed
         token-passed R at = first-token R (token-in grammar tree more symbol terminal R at)
 
     -- a nonterminal: the tree that is next
     module _ (nonterminal : s .kind ≡ 0 → ⊥) where
-      tree-of : (R : Row) → ChildIn (symbols grammar (y + 1) to) n k R → SomeTree grammar tokenImage tree n k
+      tree-of : (R : Row) → ChildIn (symbols grammar (y + 1) to) n k R → SomeTree (images grammar tokenImage tree) n k
       tree-of R (childFirst T rest there at) = record { there = T; stands = there }
 
       -- it stands there
-      pub tree-here : SomeRow grammar tokenImage tree (symbols grammar y to) n k → SomeTree grammar tokenImage tree n k
+      pub tree-here : SomeRow (images grammar tokenImage tree) (symbols grammar y to) n k → SomeTree (images grammar tokenImage tree) n k
       tree-here r = tree-of (r .there) (child-in grammar tree more symbol nonterminal (r .there) (r .stands))
 
-      module _ {old new : List ℕ} {child : Passed} (passed-child : (T : Tree) → TreeIn grammar tokenImage tree n k T → NodePassed grammar T n k old new child) where
-        after-child : (R : Row) → ChildIn (symbols grammar (y + 1) to) n k R → SomeRow grammar tokenImage tree (symbols grammar (y + 1) to) (child .node) (child .token)
+      module _ {old new : List ℕ} {child : Passed} (passed-child : (T : Tree) → TreeIn (images grammar tokenImage tree) n k T → NodePassed grammar T n k old new child) where
+        after-child : (R : Row) → ChildIn (symbols grammar (y + 1) to) n k R → SomeRow (images grammar tokenImage tree) (symbols grammar (y + 1) to) (child .node) (child .token)
         after-child R (childFirst T rest there at) =
             let first = passed-child T there in
             record { there = rest; stands = rw (first .node, first .token) at }
@@ -135,15 +136,15 @@ module _ (grammar tokenImage tree : List ℕ) where
         after-node R (childFirst T rest there at) = omega (arith, passed-child T there .node)
 
         -- the node that comes next is behind it
-        pub next-behind : SomeRow grammar tokenImage tree (symbols grammar y to) n k → n ≤ child .node
+        pub next-behind : SomeRow (images grammar tokenImage tree) (symbols grammar y to) n k → n ≤ child .node
         next-behind r = after-node (r .there) (child-in grammar tree more symbol nonterminal (r .there) (r .stands))
 
         -- and the rest of the row stands there
-        pub row-after-child : SomeRow grammar tokenImage tree (symbols grammar y to) n k → SomeRow grammar tokenImage tree (symbols grammar (y + 1) to) (child .node) (child .token)
+        pub row-after-child : SomeRow (images grammar tokenImage tree) (symbols grammar y to) n k → SomeRow (images grammar tokenImage tree) (symbols grammar (y + 1) to) (child .node) (child .token)
         row-after-child r = after-child (r .there) (child-in grammar tree more symbol nonterminal (r .there) (r .stands))
 
         module _ {S left : Set} {final : List ℕ} {passed : Passed} (room : 2 * nodeCount tree ≤ length old) (leaves : left ≡ meet S (childLeaves unbounded (s .relation) (child .set)))
-            (rest : (R : Row) → RowIn grammar tokenImage tree (symbols grammar (y + 1) to) (child .node) (child .token) R → RowPassed grammar R (symbols grammar (y + 1) to) left (child .node) (child .token) new final passed) where
+            (rest : (R : Row) → RowIn (images grammar tokenImage tree) (symbols grammar (y + 1) to) (child .node) (child .token) R → RowPassed grammar R (symbols grammar (y + 1) to) left (child .node) (child .token) new final passed) where
           first-child : (R : Row) → ChildIn (symbols grammar (y + 1) to) n k R → RowPassed grammar R (symbols grammar y to) S n k old final passed
           unfolding rowSet rowSets rowNodes rowTokens
           first-child R (childFirst T later there at) =
@@ -160,5 +161,5 @@ module _ (grammar tokenImage tree : List ℕ) where
               })
 
           -- its set is met before the rest of the row
-          pub child-passed : (R : Row) → RowIn grammar tokenImage tree (symbols grammar y to) n k R → RowPassed grammar R (symbols grammar y to) S n k old final passed
+          pub child-passed : (R : Row) → RowIn (images grammar tokenImage tree) (symbols grammar y to) n k R → RowPassed grammar R (symbols grammar y to) S n k old final passed
           child-passed R at = first-child R (child-in grammar tree more symbol nonterminal R at)

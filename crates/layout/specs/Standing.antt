@@ -7,6 +7,7 @@ use Rattle.rules.specs.Grammar.{Symbol, Production, Token}
 use Rattle.rules.specs.Tree.{Tree, Row}
 use Rattle.rules.specs.Derivation.{Right, RightRow, nodes, rowNodes, tokens, rowTokens}
 use Rattle.fields.specs.Fields.{listFrom}
+use Rattle.fields.specs.Images.{Images}
 use Rattle.grammar_image.specs.GrammarImage.{symbolAt, productionAt}
 use Rattle.token_image.specs.TokenImage.{tokensOf}
 use Rattle.tree_image.specs.TreeImage.{nodesOf}
@@ -34,11 +35,11 @@ module _ (G : ℕ → Production) (ns : List ℕ) (ts : List Token) where
     pub read : drop k ts ≡ rowTokens R ++ tokensAfter
 
 -- in three images
-abbrev pub TreeIn : List ℕ → List ℕ → List ℕ → ℕ → ℕ → Tree → Type 0
-TreeIn grammar tokenImage tree = TreeAt (productionAt grammar) (nodesOf tree) (tokensOf tokenImage)
+abbrev pub TreeIn : Images → ℕ → ℕ → Tree → Type 0
+TreeIn s = TreeAt (productionAt (s .grammar)) (nodesOf (s .tree)) (tokensOf (s .tokens))
 
-abbrev pub RowIn : List ℕ → List ℕ → List ℕ → List Symbol → ℕ → ℕ → Row → Type 0
-RowIn grammar tokenImage tree = RowAt (productionAt grammar) (nodesOf tree) (tokensOf tokenImage)
+abbrev pub RowIn : Images → List Symbol → ℕ → ℕ → Row → Type 0
+RowIn s = RowAt (productionAt (s .grammar)) (nodesOf (s .tree)) (tokensOf (s .tokens))
 
 -- in two images, with any tokens
 abbrev pub TreeListed : List ℕ → List ℕ → List Token → ℕ → ℕ → Tree → Type 0
@@ -48,13 +49,13 @@ abbrev pub RowListed : List ℕ → List ℕ → List Token → List Symbol → 
 RowListed grammar tree = RowAt (productionAt grammar) (nodesOf tree)
 
 -- some tree or row stands there
-pub record SomeTree (grammar tokenImage tree : List ℕ) (n k : ℕ) : Type 0 where
+pub record SomeTree (s : Images) (n k : ℕ) : Type 0 where
   pub there : Tree
-  pub stands : TreeIn grammar tokenImage tree n k there
+  pub stands : TreeIn s n k there
 
-pub record SomeRow (grammar tokenImage tree : List ℕ) (ss : List Symbol) (n k : ℕ) : Type 0 where
+pub record SomeRow (s : Images) (ss : List Symbol) (n k : ℕ) : Type 0 where
   pub there : Row
-  pub stands : RowIn grammar tokenImage tree ss n k there
+  pub stands : RowIn s ss n k there
 
 pub record SomeTreeListed (grammar tree : List ℕ) (n : ℕ) : Type 0 where
   pub ts : List Token

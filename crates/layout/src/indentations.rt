@@ -2,18 +2,16 @@
 // A node is given its number before those below it, each the least that its set and its parent allow.
 use grammar_image::production_at;
 use grammar_image::symbol_at;
-use tree_image::node_at;
 use rules::relation::Set;
 use rules::relation::least;
+use tree_image::node_at;
 ghost use mathlib.Core.Path.{_≡_};
 ghost use mathlib.Core.List.{List, _++_};
 ghost use Prim.Native.Nat.{ℕ, _+_, _*_, _≤_};
 ghost use lib.ListN.{length, getD, drop};
-ghost use Rattle.rules.specs.Grammar.{Token};
-ghost use Rattle.rules.specs.Tree.{Tree, Row};
 ghost use Rattle.tree_image.specs.TreeImage.{nodeCount};
-ghost use Rattle.layout.specs.Standing.{symbols, TreeListed, RowListed, SomeTreeListed, SomeRowListed};
-ghost use Rattle.layout.specs.Passes.{NodeGiven, RowGiven};
+ghost use Rattle.layout.specs.Standing.{symbols, SomeTreeListed, SomeRowListed};
+ghost use Rattle.layout.specs.Passes.{NodeNumber, RowNumbers};
 
 // The set of node n.
 fn set_at(sets: &[u32], n: u16) -> Set
@@ -41,7 +39,8 @@ pub fn node(
     requires stands { ⌜ SomeTreeListed (now grammar) (now tree) n ⌝ }
     requires sets { ⌜ 2 * nodeCount (now tree) ≤ length (now sets) ⌝ }
     requires room { ⌜ nodeCount (now tree) ≤ length (now indentations) ⌝ }
-    ensures { λ r. ⌜ ((ts : List Token) (k : ℕ) (T : Tree) → TreeListed (now (grammar .entry)) (now (tree .entry)) ts n k T → NodeGiven (now (grammar .entry)) T n i (now (sets .entry)) (now (indentations .entry)) (now (indentations .exit)) r) ⌝ }
+    ensures { λ r. ⌜ NodeNumber (now (grammar .entry)) (now (tree .entry)) n i
+        (now (sets .entry)) (now (indentations .entry)) (now (indentations .exit)) r ⌝ }
 {
     let at = n as usize;
     indentations[at] = i;
@@ -66,7 +65,9 @@ fn row(
     requires stands { ⌜ SomeRowListed (now grammar) (now tree) (symbols (now grammar) first end) n ⌝ }
     requires sets { ⌜ 2 * nodeCount (now tree) ≤ length (now sets) ⌝ }
     requires room { ⌜ nodeCount (now tree) ≤ length (now indentations) ⌝ }
-    ensures { λ r. ⌜ ((ts : List Token) (k : ℕ) (R : Row) → RowListed (now (grammar .entry)) (now (tree .entry)) ts (symbols (now (grammar .entry)) first end) n k R → RowGiven (now (grammar .entry)) R (symbols (now (grammar .entry)) first end) n i (now (sets .entry)) (now (indentations .entry)) (now (indentations .exit)) r) ⌝ }
+    ensures { λ r. ⌜ RowNumbers (now (grammar .entry)) (now (tree .entry))
+        (symbols (now (grammar .entry)) first end) n i
+        (now (sets .entry)) (now (indentations .entry)) (now (indentations .exit)) r ⌝ }
 {
     let mut next = n;
     for y in first..end {

@@ -2,23 +2,22 @@
 // A node is passed once its row is, so each set is written after those below it.
 use grammar_image::production_at;
 use grammar_image::symbol_at;
-use token_image::token_at;
-use tree_image::node_at;
 use rules::relation::Set;
 use rules::relation::all;
 use rules::relation::child_leaves;
 use rules::relation::meet;
 use rules::relation::token_leaves;
+use token_image::token_at;
+use tree_image::node_at;
 ghost use mathlib.Core.Path.{_≡_};
 ghost use mathlib.Core.List.{[], _∷_};
 ghost use Prim.Native.Nat.{ℕ, _+_, _*_, _≤_};
 ghost use lib.ListN.{length};
-ghost use Rattle.rules.specs.Stored.{unbounded};
-ghost use Rattle.rules.specs.Interval.{allSet, highestEmpty};
-ghost use Rattle.rules.specs.Tree.{Tree, Row};
+ghost use Rattle.rules.specs.Interval.{highestEmpty};
+ghost use Rattle.fields.specs.Images.{images};
 ghost use Rattle.tree_image.specs.TreeImage.{nodeCount};
-ghost use Rattle.layout.specs.Standing.{symbols, TreeIn, RowIn, SomeTree, SomeRow};
-ghost use Rattle.layout.specs.Passes.{writtenAt, NodePassed, RowPassed};
+ghost use Rattle.layout.specs.Standing.{symbols, SomeTree, SomeRow};
+ghost use Rattle.layout.specs.Passes.{writtenAt, NodeSet, RowSet};
 
 // What the pass of a node or of a row gives: a set, and the node and the token that come next.
 pub struct Passed {
@@ -39,9 +38,10 @@ fn store(sets: &mut [u32], n: u16, set: Set)
 
 // The set of node n, whose tokens begin at token k. The sets of its subtree are written.
 pub fn node(grammar: &[u8], tokens: &[u8], tree: &[u8], sets: &mut [u32], n: u16, k: u16) -> Passed
-    requires stands { ⌜ SomeTree (now grammar) (now tokens) (now tree) n k ⌝ }
+    requires stands { ⌜ SomeTree (images (now grammar) (now tokens) (now tree)) n k ⌝ }
     requires room { ⌜ 2 * nodeCount (now tree) ≤ length (now sets) ⌝ }
-    ensures { λ r. ⌜ ((T : Tree) → TreeIn (now (grammar .entry)) (now (tokens .entry)) (now (tree .entry)) n k T → NodePassed (now (grammar .entry)) T n k (now (sets .entry)) (now (sets .exit)) r) ⌝ }
+    ensures { λ r. ⌜ NodeSet (images (now (grammar .entry)) (now (tokens .entry)) (now (tree .entry))) n k
+        (now (sets .entry)) (now (sets .exit)) r ⌝ }
 {
     let production = production_at(grammar, node_at(tree, n));
     let first = production.first as u32;
@@ -63,9 +63,10 @@ fn row(
     n: u16,
     k: u16,
 ) -> Passed
-    requires stands { ⌜ SomeRow (now grammar) (now tokens) (now tree) (symbols (now grammar) first end) n k ⌝ }
+    requires stands { ⌜ SomeRow (images (now grammar) (now tokens) (now tree)) (symbols (now grammar) first end) n k ⌝ }
     requires room { ⌜ 2 * nodeCount (now tree) ≤ length (now sets) ⌝ }
-    ensures { λ r. ⌜ ((R : Row) → RowIn (now (grammar .entry)) (now (tokens .entry)) (now (tree .entry)) (symbols (now (grammar .entry)) first end) n k R → RowPassed (now (grammar .entry)) R (symbols (now (grammar .entry)) first end) (allSet unbounded) n k (now (sets .entry)) (now (sets .exit)) r) ⌝ }
+    ensures { λ r. ⌜ RowSet (images (now (grammar .entry)) (now (tokens .entry)) (now (tree .entry)))
+        (symbols (now (grammar .entry)) first end) n k (now (sets .entry)) (now (sets .exit)) r ⌝ }
 {
     let mut left = all();
     let mut next_node = n;

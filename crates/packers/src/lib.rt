@@ -15,13 +15,13 @@ ghost use Rattle.packers.specs.Packing.{bytesOf};
 // What a packer answers.
 pub enum Packed {
     // The image stands in the first bytes of the output, as many as are said.
-    Written(usize),
+    Written(u16),
     // Too many entries, an empty tree list, or two lists of unequal length.
     Entries,
     // A column above the greatest: the index of the first such.
-    Column(usize),
+    Column(u32),
     // The output is too short: the bytes needed.
-    Room(usize),
+    Room(u32),
 }
 
 impl Packed {
@@ -38,7 +38,7 @@ impl Packed {
     }
 
     // The answer's place.
-    pub fn place(self) -> usize
+    pub fn place(self) -> u32
         ensures { λ r. ⌜ r ≡ packedPlace self ⌝ }
     {
         match self {
@@ -50,7 +50,7 @@ impl Packed {
     }
 
     // The length of the image that was written.
-    pub fn length(self) -> usize
+    pub fn length(self) -> u16
         ensures { λ r. ⌜ r ≡ packedLength self ⌝ }
     {
         match self {

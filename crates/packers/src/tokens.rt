@@ -13,13 +13,14 @@ ghost use Rattle.rules.specs.Limits.{maxTokens};
 ghost use Rattle.fields.specs.Fields.{firstFault};
 ghost use Rattle.packers.specs.Packing.{columnFields, tokenImage, tokenAnswer, TokensPacked};
 
-// The first column above the greatest, by its index.
+// The first column above the greatest, by its index, of no more columns than a sheet has tokens.
 fn check_columns(columns: &[u16]) -> Checked
+    requires { ⌜ length (now columns) ≤ maxTokens ⌝ }
     ensures { λ r. ⌜ r ≡ firstFault (columnFields (now (columns .entry))) ⌝ }
 {
     for k in 0..columns.len() {
         if columns[k] > COLUMN {
-            return Checked::Fault(k);
+            return Checked::Fault(k as u32);
         }
     }
     Checked::Good
@@ -41,16 +42,18 @@ fn token_answer(terminals: &[u16], columns: &[u16], room: usize) -> Packed
     }
     let needed = 6 + 4 * count;
     if room < needed {
-        return Packed::Room(needed);
+        return Packed::Room(needed as u32);
     }
-    Packed::Written(needed)
+    Packed::Written(needed as u16)
 }
 
 // The image at the start of an output that has room for it.
 fn write_tokens(terminals: &[u16], columns: &[u16], out: &mut [u8])
     requires { ⌜ (length (now terminals) ≡ length (now columns)) × (length (now terminals) ≤ maxTokens) ⌝ }
     requires { ⌜ 6 + 4 * length (now terminals) ≤ length (now out) ⌝ }
-    ensures { λ _. ⌜ now (out .exit) ≡ tokenImage (now (terminals .entry)) (now (columns .entry)) ++ drop (6 + 4 * length (now (terminals .entry))) (now (out .entry)) ⌝ }
+    ensures { λ _. ⌜ now (out .exit)
+        ≡ tokenImage (now (terminals .entry)) (now (columns .entry))
+        ++ drop (6 + 4 * length (now (terminals .entry))) (now (out .entry)) ⌝ }
 {
     let count = terminals.len();
     put_header(out, count as u16, (6 + 4 * count) as u16);
@@ -64,7 +67,9 @@ fn write_tokens(terminals: &[u16], columns: &[u16], out: &mut [u8])
 // Refused, and then nothing is written: lists of unequal length or over the greatest number of
 // tokens; a column above the greatest; too little room.
 pub fn pack_tokens(terminals: &[u16], columns: &[u16], out: &mut [u8]) -> Packed
-    ensures { λ r. ⌜ TokensPacked (now (terminals .entry)) (now (columns .entry)) (now (out .entry)) r (now (out .exit)) ⌝ }
+    ensures { λ r. ⌜ TokensPacked (now (terminals .entry)) (now (columns .entry)) (now (out .entry))
+        r
+        (now (out .exit)) ⌝ }
 {
     let answer = token_answer(terminals, columns, out.len());
     if let Packed::Written(_) = answer {

@@ -23,16 +23,18 @@ fn tree_answer(productions: &[u16], room: usize) -> Packed
     }
     let needed = 6 + 2 * count;
     if room < needed {
-        return Packed::Room(needed);
+        return Packed::Room(needed as u32);
     }
-    Packed::Written(needed)
+    Packed::Written(needed as u16)
 }
 
 // The image at the start of an output that has room for it.
 fn write_tree(productions: &[u16], out: &mut [u8])
     requires { ⌜ length (now productions) ≤ maxNodes ⌝ }
     requires { ⌜ 6 + 2 * length (now productions) ≤ length (now out) ⌝ }
-    ensures { λ _. ⌜ now (out .exit) ≡ treeImage (now (productions .entry)) ++ drop (6 + 2 * length (now (productions .entry))) (now (out .entry)) ⌝ }
+    ensures { λ _. ⌜ now (out .exit)
+        ≡ treeImage (now (productions .entry))
+        ++ drop (6 + 2 * length (now (productions .entry))) (now (out .entry)) ⌝ }
 {
     let count = productions.len();
     put_header(out, count as u16, (6 + 2 * count) as u16);

@@ -3,11 +3,11 @@ mod input;
 
 use delivery::check_delivery;
 use delivery::tree_in;
-use tree_image::node_count;
 use input::Input;
 use libc::STDERR_FILENO;
 use libc::STDOUT_FILENO;
 use report::report;
+use tree_image::node_count;
 
 // One byte more than the three longest images have: what is longer has a tree image that is too long.
 const DELIVERY: usize = 47133;

@@ -1,4 +1,5 @@
--- What the contract of `report` allows is one outcome; the text of sheet A is the sample of document 01, byte for byte; and a number can be read back from its digits.
+-- What the contract of `report` allows is one outcome; the text of sheet A is the sample of document 01, byte for byte;
+-- and a number can be read back from its digits.
 use mathlib.Core.Path.{_≡_, refl, sym, _∙_}
 use mathlib.Core.Bool.{Bool, true, false, cond}
 use mathlib.Core.List.{List, [], _∷_, _++_}
@@ -14,7 +15,8 @@ use Rattle.report.specs.Text.{digits, decimal, upper, line, lines, shown
 
 -- of two outcomes: the length, and every entry of the output
 pub one-report : {number place nodes : ℕ} {sets indentations out : List ℕ} {r r′ : ℕ} {after after′ : List ℕ} →
-    Reported number place nodes sets indentations out r after → Reported number place nodes sets indentations out r′ after′ → (r ≡ r′) × (after ≡ after′)
+    Reported number place nodes sets indentations out r after →
+    Reported number place nodes sets indentations out r′ after′ → (r ≡ r′) × (after ≡ after′)
 one-report a b = (a .result ∙ sym (b .result), a .output ∙ sym (b .output))
 
 -- the length that is given never exceeds the output

@@ -1,4 +1,5 @@
--- The text of an answer ("It prints number and place"), and what the function that puts it into an output gives back. Bytes are numbers; 32 is a space, 10 the end of a line, 45 the sign -.
+-- The text of an answer ("It prints number and place"), and what the function that puts it into an output gives back.
+-- Bytes are numbers; 32 is a space, 10 the end of a line, 45 the sign -.
 use mathlib.Core.Path.{_≡_}
 use mathlib.Core.Bool.{Bool, _&&_, cond}
 use mathlib.Core.List.{List, [], _∷_, _++_}
@@ -30,12 +31,14 @@ ended word = word ++ (10 ∷ [])
 
 -- "node, low, high, indentation"
 unfoldable pub line : ℕ → ℕ → ℕ → ℕ → List ℕ
-line n low high indentation = spaced (decimal n) ++ spaced (decimal low) ++ spaced (upper high) ++ ended (decimal indentation)
+line n low high indentation =
+    spaced (decimal n) ++ spaced (decimal low) ++ spaced (upper high) ++ ended (decimal indentation)
 
 -- "one line a node", of the nodes below a count
 unfoldable pub lines : List ℕ → List ℕ → ℕ → List ℕ
 lines sets indentations zero = []
-lines sets indentations (suc n) = lines sets indentations n ++ line n (getD sets (2 * n) 0) (getD sets (2 * n + 1) 0) (getD indentations n 0)
+lines sets indentations (suc n) =
+    lines sets indentations n ++ line n (getD sets (2 * n) 0) (getD sets (2 * n + 1) 0) (getD indentations n 0)
 
 -- the nodes that have a line: all "on acceptance", else none
 unfoldable pub shown : ℕ → ℕ → ℕ
@@ -43,9 +46,11 @@ shown number nodes = cond (eqb number 0) nodes 0
 
 -- "It prints number and place; on acceptance also one line a node"
 unfoldable pub text : ℕ → ℕ → ℕ → List ℕ → List ℕ → List ℕ
-text number place nodes sets indentations = spaced (decimal number) ++ ended (decimal place) ++ lines sets indentations (shown number nodes)
+text number place nodes sets indentations =
+    spaced (decimal number) ++ ended (decimal place) ++ lines sets indentations (shown number nodes)
 
--- the lists have the entries of so many nodes, and an output of `room` bytes holds their text whatever the entries are: two numbers and four a node, each with the byte behind it
+-- the lists have the entries of so many nodes, and an output of `room` bytes holds their text whatever the entries are:
+-- two numbers and four a node, each with the byte behind it
 unfoldable pub fits : ℕ → ℕ → ℕ → ℕ → Bool
 fits count sets indentations room =
     leb count maxNodes && (leb (2 * count) sets && (leb count indentations && leb (42 + 84 * count) room))
@@ -60,4 +65,6 @@ printed number place nodes sets indentations out =
 -- what comes back: the length of what is printed, which stands in front of an output that is else as it was
 pub record Reported (number place nodes : ℕ) (sets indentations out : List ℕ) (r : ℕ) (after : List ℕ) : Type 0 where
   pub result : r ≡ length (printed number place nodes sets indentations out)
-  pub output : after ≡ printed number place nodes sets indentations out ++ drop (length (printed number place nodes sets indentations out)) out
+  pub output : after
+      ≡ printed number place nodes sets indentations out
+      ++ drop (length (printed number place nodes sets indentations out)) out

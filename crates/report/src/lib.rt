@@ -39,13 +39,15 @@ fn text_fits(count: usize, sets: usize, indentations: usize, room: usize) -> boo
 // entries are missing, or where `out` has under 42 bytes and 84 more for each line of a node.
 pub fn report(
     number: u8,
-    place: usize,
+    place: u32,
     nodes: usize,
     sets: &[u32],
     indentations: &[u32],
     out: &mut [u8],
 ) -> usize
-    ensures { λ r. ⌜ Reported number place nodes (now (sets .entry)) (now (indentations .entry)) (now (out .entry)) r (now (out .exit)) ⌝ }
+    ensures { λ r. ⌜ Reported number place nodes (now (sets .entry)) (now (indentations .entry)) (now (out .entry))
+        r
+        (now (out .exit)) ⌝ }
 {
     let count = shown_nodes(number, nodes);
     if !text_fits(count, sets.len(), indentations.len(), out.len()) {

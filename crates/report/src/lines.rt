@@ -43,7 +43,8 @@ pub fn put_lines(
 ) -> usize
     requires { ⌜ (count ≤ maxNodes) × (2 * count ≤ length (now sets)) × (count ≤ length (now indentations)) ⌝ }
     requires { ⌜ at + 84 * count ≤ length (now out) ⌝ }
-    ensures { λ r. ⌜ Put at (lines (now (sets .entry)) (now (indentations .entry)) count) (now (out .entry)) r (now (out .exit)) ⌝ }
+    ensures { λ r. ⌜ Put at (lines (now (sets .entry)) (now (indentations .entry)) count)
+        (now (out .entry)) r (now (out .exit)) ⌝ }
 {
     let mut next = at;
     for n in 0..count {

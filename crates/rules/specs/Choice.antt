@@ -1,4 +1,5 @@
--- "Set of a node" and "Least indentations": indentations given to all nodes of a tree, when every relation holds, and the least of them.
+-- "Set of a node" and "Least indentations": indentations given to all nodes of a tree, when every relation holds, and
+-- the least of them.
 use mathlib.Core.Path.{_≡_}
 use mathlib.Core.List.{List, [], _∷_, _++_}
 use Prim.Native.Nat.{ℕ, _≤_}
@@ -48,13 +49,15 @@ module _ (G : ℕ → Production) where
     LaidRow (child T row) [] i Cs = ⊥
     LaidRow (child T row) (s ∷ ss) i none = ⊥
 
-  -- "All whole numbers i for which the nodes below it can be given indentations so that, with i at this node, every relation inside its subtree holds"
+  -- "All whole numbers i for which the nodes below it can be given indentations so that, with i at this node, every
+  -- relation inside its subtree holds"
   pub record InSet (T : Tree) (i : ℕ) : Type 0 where
     pub choice : Choice
     pub here : root choice ≡ i
     pub laid : Laid T choice
 
-  -- "the list in which every node has the smallest number that it has in any choice satisfying all relations. That list is itself such a choice"
+  -- "the list in which every node has the smallest number that it has in any choice satisfying all relations. That list
+  -- is itself such a choice"
   pub record Least (T : Tree) (is : List ℕ) : Type 0 where
     pub choice : Choice
     pub laid : Laid T choice

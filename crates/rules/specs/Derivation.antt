@@ -1,6 +1,8 @@
 -- "Derivation": when a tree is right, and when a list of nodes derives a list of tokens.
--- Document 000, section 4, has the grammar (N, Σ, δ, S): δ is the table of productions here, S the start nonterminal, and a parse tree shows how S rewrites to the tokens.
--- The relations and columns of a production are left to the sets: a tree that is right here derives once they are erased, as the last paragraph of that section does.
+-- Document 000, section 4, has the grammar (N, Σ, δ, S): δ is the table of productions here, S the start nonterminal,
+-- and a parse tree shows how S rewrites to the tokens.
+-- The relations and columns of a production are left to the sets: a tree that is right here derives once they are
+-- erased, as the last paragraph of that section does.
 use mathlib.Core.Path.{_≡_}
 use mathlib.Core.List.{List, [], _∷_, _++_}
 use Prim.Native.Nat.{ℕ, suc, max, _≤_}
@@ -17,11 +19,13 @@ Nonterminal s = Terminal s → ⊥
 -- with G the productions by their numbers
 module _ (G : ℕ → Production) where
   unfoldable mutual
-    -- "a node is right when its row of children is right", and it has the nonterminal A on its left: a use of A → X₁ .. Xₙ in document 000
+    -- "a node is right when its row of children is right", and it has the nonterminal A on its left: a use of A → X₁ ..
+    -- Xₙ in document 000
     pub Right : Tree → ℕ → Type 0
     Right (node p row) A = (G p .left ≡ A) × RightRow row (G p .right)
 
-    -- "a row is right when, left to right, each nonterminal in it is met by the next node, right and with that nonterminal on its left, and each terminal by the next token, which carries it"
+    -- "a row is right when, left to right, each nonterminal in it is met by the next node, right and with that
+    -- nonterminal on its left, and each terminal by the next token, which carries it"
     pub RightRow : Row → List Symbol → Type 0
     RightRow end [] = Unit {0}
     RightRow (token t row) (s ∷ ss) = Terminal s × (t .terminal ≡ s .number) × RightRow row ss
@@ -60,7 +64,8 @@ unfoldable mutual
   rowDepth (token t row) = rowDepth row
   rowDepth (child T row) = max (depth T) (rowDepth row)
 
--- "The root's production has the start nonterminal on its left. All nodes and all tokens are used": w in the language of document 000
+-- "The root's production has the start nonterminal on its left. All nodes and all tokens are used": w in the language
+-- of document 000
 pub record Derives (G : ℕ → Production) (start : ℕ) (ns : List ℕ) (ts : List Token) : Type 0 where
   pub tree : Tree
   pub right : Right G tree start

@@ -1,4 +1,5 @@
--- Sets by a low and a high, and what the relations make of them: what the two passes compute. No promise to the desk names them; that they are the sets and the least indentations is proved.
+-- Sets by a low and a high, and what the relations make of them: what the two passes compute. No promise to the desk
+-- names them; that they are the sets and the least indentations is proved.
 use mathlib.Core.Bool.{cond}
 use mathlib.Core.List.{List, [], _∷_, _++_}
 use Prim.Native.Nat.{ℕ, zero, suc, _+_, _*_, _-_, _<_, _≤_, max, min}
@@ -28,7 +29,8 @@ module _ (top : ℕ) where
   unfoldable pub below : ℕ → Set
   below high = cond (ltb high top) (cond (eqb high 0) emptySet (bounds 0 (high - 1))) allSet
 
-  -- what a relation leaves the parent of a child with a set that is not empty: = leaves that set, > the numbers below its high, ≥ those up to its high, free all
+  -- what a relation leaves the parent of a child with a set that is not empty: = leaves that set, > the numbers below
+  -- its high, ≥ those up to its high, free all
   unfoldable pub leaves : ℕ → Set → Set
   leaves r S = cond (eqb r 0) S (cond (eqb r 1) (below (S .high)) (cond (eqb r 2) (bounds 0 (S .high)) allSet))
 
@@ -42,7 +44,9 @@ module _ (top : ℕ) where
 
 -- the numbers that are in both sets
 unfoldable pub meet : Set → Set → Set
-meet S T = cond (ltb (min (S .high) (T .high)) (max (S .low) (T .low))) emptySet (bounds (max (S .low) (T .low)) (min (S .high) (T .high)))
+meet S T =
+    cond (ltb (min (S .high) (T .high)) (max (S .low) (T .low))) emptySet
+    (bounds (max (S .low) (T .low)) (min (S .high) (T .high)))
 
 -- the least number of a child with the set S below a parent with indentation i
 unfoldable pub least : ℕ → ℕ → Set → ℕ
@@ -87,4 +91,5 @@ module _ (G : ℕ → Production) (top : ℕ) where
     leastChoices (token t row) [] i = none
     leastChoices (child T row) [] i = none
     leastChoices (token t row) (s ∷ ss) i = leastChoices row ss i
-    leastChoices (child T row) (s ∷ ss) i = next (leastChoice T (least (s .relation) i (setOf T))) (leastChoices row ss i)
+    leastChoices (child T row) (s ∷ ss) i =
+        next (leastChoice T (least (s .relation) i (setOf T))) (leastChoices row ss i)

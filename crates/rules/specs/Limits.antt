@@ -29,6 +29,7 @@ maxNodes = 4096
 abbrev pub maxDepth : ℕ
 maxDepth = 256
 
--- "With the limits below no entry exceeds 4,350": the root's least indentation is at most the greatest column, and each level below it may rise
+-- "With the limits below no entry exceeds 4,350": the root's least indentation is at most the greatest column, and each
+-- level below it may rise
 abbrev pub maxIndentation : ℕ
 maxIndentation = maxColumn + rise * (maxDepth - 1)

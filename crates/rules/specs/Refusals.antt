@@ -10,7 +10,8 @@ use Rattle.rules.specs.Derivation.{Right, nodes, tokens, depth, Derives}
 module _ (G : ℕ → Production) (start : ℕ) (ns : List ℕ) (ts : List Token) where
   -- every tree that is right at the start nonterminal and stands at the head of the lists is as P says
   abbrev pub EachTree : (Tree → Type 0) → Type 0
-  EachTree P = (T : Tree) → Right G T start → (x : List ℕ) (y : List Token) → ns ≡ nodes T ++ x → ts ≡ tokens T ++ y → P T
+  EachTree P =
+      (T : Tree) → Right G T start → (x : List ℕ) (y : List Token) → ns ≡ nodes T ++ x → ts ≡ tokens T ++ y → P T
 
   -- no such tree stands there
   abbrev pub NoTree : Type 0
@@ -20,11 +21,14 @@ module _ (G : ℕ → Production) (start : ℕ) (ns : List ℕ) (ts : List Token
   abbrev pub AllDeeper : ℕ → Type 0
   AllDeeper limit = EachTree (λ T. limit < depth T)
 
--- Of 5 to 9 each says the place, what is true of the lists, and that it stays true, whatever follows what the walk looked at.
+-- Of 5 to 9 each says the place, what is true of the lists, and that it stays true, whatever follows what the walk
+-- looked at.
 module _ (G : ℕ → Production) (start : ℕ) (ns : List ℕ) (ts : List Token) where
   -- 5: no tree, whatever follows node n and the tokens
   abbrev pub WrongNode : ℕ → Type 0
-  WrongNode n = (n < length ns) × NoTree G start ns ts × ((x : List ℕ) (y : List Token) → NoTree G start (take (suc n) ns ++ x) (ts ++ y))
+  WrongNode n =
+      (n < length ns) × NoTree G start ns ts
+      × ((x : List ℕ) (y : List Token) → NoTree G start (take (suc n) ns ++ x) (ts ++ y))
 
   -- 6: no tree, whatever follows the tokens
   abbrev pub NodesEnd : ℕ → Type 0
@@ -32,7 +36,9 @@ module _ (G : ℕ → Production) (start : ℕ) (ns : List ℕ) (ts : List Token
 
   -- 7: no tree, whatever follows the nodes and token k
   abbrev pub WrongToken : ℕ → Type 0
-  WrongToken k = (k < length ts) × NoTree G start ns ts × ((x : List ℕ) (y : List Token) → NoTree G start (ns ++ x) (take (suc k) ts ++ y))
+  WrongToken k =
+      (k < length ts) × NoTree G start ns ts
+      × ((x : List ℕ) (y : List Token) → NoTree G start (ns ++ x) (take (suc k) ts ++ y))
 
   -- 8: no tree, whatever follows the nodes
   abbrev pub TokensEnd : ℕ → Type 0
@@ -40,7 +46,9 @@ module _ (G : ℕ → Production) (start : ℕ) (ns : List ℕ) (ts : List Token
 
   -- 9: only deeper trees, whatever follows node n and the tokens
   abbrev pub TooDeep : ℕ → ℕ → Type 0
-  TooDeep limit n = (n < length ns) × AllDeeper G start ns ts limit × ((x : List ℕ) (y : List Token) → AllDeeper G start (take (suc n) ns ++ x) (ts ++ y) limit)
+  TooDeep limit n =
+      (n < length ns) × AllDeeper G start ns ts limit
+      × ((x : List ℕ) (y : List Token) → AllDeeper G start (take (suc n) ns ++ x) (ts ++ y) limit)
 
   -- "walk done, nodes remain": a right tree has just the nodes before node n and reads the first of the tokens
   pub record NodesRemain (n : ℕ) : Type 0 where

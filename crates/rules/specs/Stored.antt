@@ -21,7 +21,8 @@ pub data Stored (S : ℕ → Type 0) : ℕ → ℕ → Type 0 where
   -- "All whole numbers is low 0, high 4,294,967,295"
   all : ((i : ℕ) → S i) → Stored S 0 unbounded
   -- any other by its lowest and its highest number, with all between them in it
-  between : {low high : ℕ} → low ≤ high → high < unbounded → ((i : ℕ) → S i → (low ≤ i) × (i ≤ high)) → ((i : ℕ) → low ≤ i → i ≤ high → S i) → Stored S low high
+  between : {low high : ℕ} → low ≤ high → high < unbounded → ((i : ℕ) → S i → (low ≤ i) × (i ≤ high)) →
+      ((i : ℕ) → low ≤ i → i ≤ high → S i) → Stored S low high
 
 -- the subtrees at the nodes of a tree, in preorder: the first is the tree itself
 unfoldable mutual

@@ -1,4 +1,5 @@
--- The order of events of "What comes back": "5 to 9 arise during one walk in preorder, and the first met is given". This definition runs.
+-- The order of events of "What comes back": "5 to 9 arise during one walk in preorder, and the first met is given".
+-- This definition runs.
 use mathlib.Core.Bool.{cond}
 use mathlib.Core.List.{List, [], _∷_}
 use Prim.Native.Nat.{ℕ, zero, suc}
@@ -37,7 +38,8 @@ tokenDue ts a n k =
     (cond (eqb (getD ts k noToken .terminal) a) (used n (suc k)) (refused (answer 7 k)))
     (refused (answer 8 (length ts)))
 
--- "For a node that is due the order is 6, 5, 9": the nonterminal A is due, and where node n has it on its left, `rest` follows; G are the productions by their numbers, ns the nodes
+-- "For a node that is due the order is 6, 5, 9": the nonterminal A is due, and where node n has it on its left, `rest`
+-- follows; G are the productions by their numbers, ns the nodes
 unfoldable pub nodeMet : (ℕ → Production) → List ℕ → ℕ → ℕ → Walked → Walked
 nodeMet G ns A n rest =
     cond (ltb n (length ns))
@@ -53,10 +55,12 @@ unfoldable pub rowDue : List Token → (ℕ → ℕ → ℕ → Walked) → List
 rowDue ts below [] n k = used n k
 rowDue ts below (s ∷ ss) n k = andThen (symbolDue ts below s n k) (rowDue ts below ss)
 
--- the nonterminal A is due, with so many levels left: a node with no level left is "deeper than 256", and any other's row follows
+-- the nonterminal A is due, with so many levels left: a node with no level left is "deeper than 256", and any other's
+-- row follows
 unfoldable pub nodeDue : (ℕ → Production) → List ℕ → List Token → ℕ → ℕ → ℕ → ℕ → Walked
 nodeDue G ns ts zero A n k = nodeMet G ns A n (refused (answer 9 n))
-nodeDue G ns ts (suc levels) A n k = nodeMet G ns A n (rowDue ts (nodeDue G ns ts levels) (G (getD ns n 0) .right) (suc n) k)
+nodeDue G ns ts (suc levels) A n k =
+    nodeMet G ns A n (rowDue ts (nodeDue G ns ts levels) (G (getD ns n 0) .right) (suc n) k)
 
 -- "walk done, nodes remain", then "walk done, tokens remain"
 unfoldable pub walkDone : List ℕ → List Token → Walked → Answer

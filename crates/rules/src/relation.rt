@@ -3,7 +3,8 @@
 ghost use mathlib.Core.Path.{_≡_};
 ghost use Prim.Native.Nat.{max, min};
 ghost use Rattle.rules.specs.Stored.{unbounded};
-ghost use Rattle.rules.specs.Interval.{allSet, below as belowOf, leaves as leavesOf, childLeaves, tokenLeaves, meet as meetOf, least as leastOf};
+ghost use Rattle.rules.specs.Interval.{allSet, below as belowOf, leaves as leavesOf, childLeaves, tokenLeaves};
+ghost use Rattle.rules.specs.Interval.{meet as meetOf, least as leastOf};
 
 // The high of a set with no upper bound.
 pub const UNBOUNDED: u32 = 4294967295;

@@ -1,4 +1,5 @@
--- "Token image. Bytes 0: count K, 0 to 4,096. 2: offset, 6. 4: total length, 6 + 4K, also the real length. Each token: terminal (below T), column (0 to 4,095)."
+-- "Token image. Bytes 0: count K, 0 to 4,096. 2: offset, 6. 4: total length, 6 + 4K, also the real length. Each token:
+-- terminal (below T), column (0 to 4,095)."
 use mathlib.Core.Path.{_≡_}
 use mathlib.Core.List.{List, [], _∷_, _++_}
 use Prim.Native.Nat.{ℕ, _+_, _*_}

@@ -47,7 +47,7 @@ fn check_header(image: &[u8]) -> Checked
 {
     let length = image.len();
     if length < 6 {
-        return Checked::Fault(length);
+        return Checked::Fault(length as u32);
     }
     let count = field_at(image, 0);
     if count > TOKENS {
@@ -88,7 +88,7 @@ fn check_records(image: &[u8], terminals: u16) -> Checked
         for k in 0..count {
             for f in 0..2 {
                 if !token_keeps(image, terminals, k, f) {
-                    break 'search 6 + 4 * k + 2 * f;
+                    break 'search (6 + 4 * k + 2 * f) as u32;
                 }
             }
         }

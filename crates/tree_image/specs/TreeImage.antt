@@ -1,4 +1,5 @@
--- "Tree image. Bytes 0: count D, 1 to 4,096. 2: offset, 6. 4: total length, 6 + 2D, also the real length. Each node: production number (below P)."
+-- "Tree image. Bytes 0: count D, 1 to 4,096. 2: offset, 6. 4: total length, 6 + 2D, also the real length. Each node:
+-- production number (below P)."
 use mathlib.Core.List.{List, [], _∷_, _++_}
 use Prim.Native.Nat.{ℕ, _+_, _*_}
 use lib.Dec.{leb, ltb, eqb}

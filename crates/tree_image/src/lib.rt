@@ -26,7 +26,7 @@ fn check_header(image: &[u8]) -> Checked
 {
     let length = image.len();
     if length < 6 {
-        return Checked::Fault(length);
+        return Checked::Fault(length as u32);
     }
     let count = field_at(image, 0);
     if count < 1 {
@@ -57,7 +57,7 @@ fn check_records(image: &[u8], productions: u16) -> Checked
         for n in 0..count {
             let at = 6 + 2 * n;
             if field_at(image, at) >= productions {
-                break 'search at;
+                break 'search at as u32;
             }
         }
         return Checked::Good;

@@ -53,6 +53,25 @@ impl Images {
     }
 }
 
+/// Number and place for a grammar image alone.
+pub fn check_grammar(image: &[u8]) -> (u8, usize) {
+    alone(1, read_grammar(Fields(image)).err())
+}
+
+/// Number and place for a token image alone, with so many terminals.
+pub fn check_tokens(image: &[u8], terminals: u16) -> (u8, usize) {
+    alone(2, read_tokens(Fields(image), terminals.into()).err())
+}
+
+/// Number and place for a tree image alone, with so many productions.
+pub fn check_tree(image: &[u8], productions: u16) -> (u8, usize) {
+    alone(3, read_tree(Fields(image), productions.into()).err())
+}
+
+fn alone(number: u8, fault: Option<Fault>) -> (u8, usize) {
+    fault.map_or((0, 0), |place| (number, place))
+}
+
 #[derive(Clone, Copy)]
 struct Fields<'a>(&'a [u8]);
 

@@ -2,6 +2,7 @@
 
 use super::random::Random;
 use super::sheet::{Above, Sheet};
+use super::Made;
 use crate::delivery::MOST_INPUT;
 
 /// Changes one thing in the lists.
@@ -81,8 +82,8 @@ const FIELDS: [u16; 20] = [
     0, 1, 2, 3, 4, 6, 15, 16, 17, 255, 256, 1023, 1024, 1025, 4095, 4096, 4097, 32768, 65534, 65535,
 ];
 
-/// Damages the bytes of the images and joins them.
-pub fn bytes(random: &mut Random, mut images: [Vec<u8>; 3]) -> Vec<u8> {
+/// Damages the bytes of one image, or of all three joined.
+pub fn bytes(random: &mut Random, mut images: [Vec<u8>; 3]) -> Made {
     let which = random.below(3);
     let image = &mut images[which];
     let at = random.below(image.len());
@@ -118,12 +119,12 @@ pub fn bytes(random: &mut Random, mut images: [Vec<u8>; 3]) -> Vec<u8> {
                 _ => ends[which] + random.within(0, 8),
             };
             input.truncate(length);
-            return input;
+            return Made::Bytes(input);
         }
-        13 => return longer(random, images.concat()),
+        13 => return Made::Bytes(longer(random, images.concat())),
         14 => {
             let length = random.pick(&[0, 0, 1, 5, 14, 15, 16, 17, 22, 100]);
-            return (0..length).map(|_| random.below(20) as u8).collect();
+            return Made::Bytes((0..length).map(|_| random.below(20) as u8).collect());
         }
         _ => {
             for _ in 0..random.within(2, 5) {
@@ -132,7 +133,7 @@ pub fn bytes(random: &mut Random, mut images: [Vec<u8>; 3]) -> Vec<u8> {
             }
         }
     }
-    images.concat()
+    Made::Images(images)
 }
 
 fn set_field(random: &mut Random, image: &mut [u8], spot: usize) {

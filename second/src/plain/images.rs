@@ -1,5 +1,7 @@
 //! Reading the three images. A fault is given as the byte of its field.
 
+use super::reading::Reading;
+
 pub struct Grammar<'a> {
     pub terminals: u16,
     pub start: u16,
@@ -14,7 +16,7 @@ pub fn word(low: u8, high: u8) -> u16 {
     u16::from_le_bytes([low, high])
 }
 
-pub fn grammar(image: &[u8]) -> Result<Grammar<'_>, usize> {
+pub fn grammar<R: Reading>(image: &[u8]) -> Result<Grammar<'_>, usize> {
     let Some((header, records)) = image.split_first_chunk::<16>() else {
         return Err(image.len());
     };
@@ -78,7 +80,7 @@ pub fn grammar(image: &[u8]) -> Result<Grammar<'_>, usize> {
         if kind > 1 {
             return Err(at);
         }
-        if relation > 3 {
+        if R::RELATION_TESTED && relation > 3 {
             return Err(at + 1);
         }
         if word(n0, n1) >= limit {

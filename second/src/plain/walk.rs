@@ -2,6 +2,7 @@
 //! what stands above it and what its own tokens allow.
 
 use super::images::{word, Grammar};
+use super::reading::Reading;
 
 /// The high of a note without upper bound. Columns end at 4,095, so no bound
 /// ever comes near it.
@@ -31,13 +32,13 @@ impl Note {
     /// `low..=high`, which is nothing if that is empty. Empty stays empty:
     /// the low never falls and the high never rises.
     #[inline(always)]
-    pub fn meet(&mut self, relation: u16, low: i16, high: i16) {
+    pub fn meet<R: Reading>(&mut self, relation: u16, low: i16, high: i16) {
         let floor = if relation == 0 { low } else { 0 };
-        let mut limit = high - i16::from(relation == 1 && high != NO_BOUND);
+        let mut limit = high - R::STEP * i16::from(relation == 1 && high != NO_BOUND);
         if relation == 3 {
             limit = NO_BOUND;
         }
-        if low > high {
+        if low > high && (R::EMPTY_PASSES_FREE || relation != 3) {
             limit = -1;
         }
         self.low = self.low.max(floor);
@@ -55,7 +56,7 @@ struct Row {
 
 /// Walks the tree and gives the first refusal of 5 to 11. `notes` has one
 /// entry a node.
-pub fn derive(
+pub fn derive<R: Reading>(
     grammar: &Grammar,
     tokens: &[[u8; 4]],
     nodes: &[[u8; 2]],
@@ -124,7 +125,7 @@ pub fn derive(
                 return Err((7, token));
             }
             let column = word(c0, c1) as i16;
-            notes[usize::from(row.node)].meet(its_relation, column, column);
+            notes[usize::from(row.node)].meet::<R>(its_relation, column, column);
             token += 1;
         }
     }

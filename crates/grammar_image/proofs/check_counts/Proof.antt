@@ -1,9 +1,13 @@
 -- `grammar_image::check_counts` meets its contract: each return passes the fields that were tested before it.
+use borrow.Author.Needs.{needs}
 use mathlib.Core.Path.{refl}
 use Rattle.grammar_image.specs.GrammarImage.{countFields}
 use Rattle.fields.proofs.Searching.{tests, pass, fail, done}
 use Rattle.grammar_image.proofs.check_counts.Statement.{statement}
 use Rattle.grammar_image.proofs.check_counts.Tie as tie
+
+cast-t5 : tie.Need-cast-t5
+cast-t5 c = search needs
 
 returns : tie.Need-returns
 unfolding countFields
@@ -49,6 +53,7 @@ pub check-counts-spec : {M : Type 1} → statement M
 check-counts-spec =
     tie.close
     (tie.spec
+    cast-t5
     returns
     returns-2
     returns-3

@@ -107,6 +107,9 @@ mul-fault-2 c = omega arith
 add-fault-2 : tie.Need-add-fault-2 Inv-loop2 μ-loop2 Inv-loop μ-loop Inv-search μ-search
 add-fault-2 c = omega arith
 
+cast-fault : tie.Need-cast-fault Inv-loop2 μ-loop2 Inv-loop μ-loop Inv-search μ-search
+cast-fault c = omega arith
+
 add-f : tie.Need-add-f Inv-loop2 μ-loop2 Inv-loop μ-loop Inv-search μ-search
 add-f c = omega arith
 
@@ -223,6 +226,7 @@ check-productions-spec =
     add-fault
     mul-fault-2
     add-fault-2
+    cast-fault
     add-f
     loop2-less
     loop2-again

@@ -6,8 +6,9 @@ use native.Mathlib.Omega.{arith}
 use lib.ListN.{length}
 use denote.Ref.{now}
 use Rattle.rules.specs.Walk.{Answer}
+use Rattle.fields.specs.Images.{images}
 use Rattle.tree_image.specs.TreeImage.{nodeCount}
-use Rattle.judge.specs.Judged.{tests, firstRefusal}
+use Rattle.judge.specs.Judged.{entries, tests, firstRefusal, lists}
 use Rattle.judge.proofs.Outcomes.{refused-judged, room-for-sets, room-for-indentations, some-tree, some-tree-listed, empty-judged, accepted-judged}
 use Rattle.judge.proofs.check.Statement.{statement}
 use Rattle.judge.proofs.check.Tie as tie
@@ -15,7 +16,7 @@ use Rattle.judge.proofs.check.Tie as tie
 -- no test refuses
 passed : (c : tie.Else1) →
     let a = c .before .before .before .before .before .before .before .before .args in
-    firstRefusal (tests (now (a .grammar)) (now (a .tokens)) (now (a .tree)) (length (now (a .sets))) (length (now (a .indentations)))) .number ≡ 0
+    firstRefusal (tests (images (now (a .grammar)) (now (a .tokens)) (now (a .tree))) (entries (length (now (a .sets))) (length (now (a .indentations))))) .number ≡ 0
 passed c = sym (ap (λ (a : Answer). a .number) (c .before .before .refusal .ensures)) ∙ c .if1 .left
 
 -- so the sets have room
@@ -24,18 +25,18 @@ sets-room : (c : tie.Else1) →
     2 * nodeCount (now (a .tree)) ≤ length (now (a .sets))
 sets-room c =
     let a = c .before .before .before .before .before .before .before .before .args in
-    room-for-sets (now (a .grammar)) (now (a .tokens)) (now (a .tree)) (now (a .sets)) (now (a .indentations)) (passed c)
+    room-for-sets (images (now (a .grammar)) (now (a .tokens)) (now (a .tree))) (lists (now (a .sets)) (now (a .indentations))) (passed c)
 
 refusal-requires : tie.Need-refusal-requires
 refusal-requires c κs = search needs
 
 returns : tie.Need-returns
-returns c = refused-judged _ _ _ _ _ (c .before .before .refusal .ensures) (c .if1 .taken)
+returns c = refused-judged _ _ (c .before .before .refusal .ensures) (c .if1 .taken)
 
 node-requires : tie.Need-node-requires
 node-requires c κs =
     let a = c .before .before .before .before .before .before .before .before .before .args in
-    (some-tree (now (a .grammar)) (now (a .tokens)) (now (a .tree)) (now (a .sets)) (now (a .indentations)) (passed (c .before)), sets-room (c .before))
+    (some-tree (images (now (a .grammar)) (now (a .tokens)) (now (a .tree))) (lists (now (a .sets)) (now (a .indentations))) (passed (c .before)), sets-room (c .before))
 
 node-count-requires : tie.Need-node-count-requires
 node-count-requires c κs = search needs
@@ -50,15 +51,15 @@ same-length : tie.Need-same-length
 same-length c = search needs
 
 returns-2 : tie.Need-returns-2
-returns-2 c = empty-judged _ _ _ _ _ (passed (c .before .before .before .before .before .before .before .before .before)) (c .before .before .before .before .before .before .before .node .ensures) (omega arith) (c .before .node-count .ensures) (c .highest-empty .ensures)
+returns-2 c = empty-judged _ _ (passed (c .before .before .before .before .before .before .before .before .before)) (c .before .before .before .before .before .before .before .node .ensures) (omega arith) (c .before .node-count .ensures) (c .highest-empty .ensures)
 
 node-requires-2 : tie.Need-node-requires-2
 node-requires-2 c κs =
     let at = c .before .before .before .before .before .before in
     let else = at .before .before in
     let a = else .before .before .before .before .before .before .before .before .args in (
-      some-tree-listed (now (a .grammar)) (now (a .tokens)) (now (a .tree)) (now (a .sets)) (now (a .indentations)) (passed else),
-      (omega (arith, sets-room else, at .node .kept .1 .1 .1 .0), room-for-indentations (now (a .grammar)) (now (a .tokens)) (now (a .tree)) (now (a .sets)) (now (a .indentations)) (passed else)),
+      some-tree-listed (images (now (a .grammar)) (now (a .tokens)) (now (a .tree))) (lists (now (a .sets)) (now (a .indentations))) (passed else),
+      (omega (arith, sets-room else, at .node .kept .1 .1 .1 .0), room-for-indentations (images (now (a .grammar)) (now (a .tokens)) (now (a .tree))) (lists (now (a .sets)) (now (a .indentations))) (passed else)),
     )
 
 same-length-2 : tie.Need-same-length-2
@@ -68,7 +69,7 @@ same-length-3 : tie.Need-same-length-3
 same-length-3 c = search needs
 
 returns-3 : tie.Need-returns-3
-returns-3 c = accepted-judged _ _ _ _ _ (passed (c .before .before .before .before .before .before .before .before .before .before .before)) (c .before .before .before .before .before .before .before .before .before .node .ensures) (omega arith) (c .before .before .node2 .ensures)
+returns-3 c = accepted-judged _ _ (passed (c .before .before .before .before .before .before .before .before .before .before .before)) (c .before .before .before .before .before .before .before .before .before .node .ensures) (omega arith) (c .before .before .node2 .ensures)
 
 pub check-spec : {M : Type 1} → statement M
 check-spec =

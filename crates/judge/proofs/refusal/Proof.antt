@@ -90,12 +90,18 @@ mul-if1 c = search needs
 mul-t19 : tie.Need-mul-t19
 mul-t19 c = search needs
 
+cast-t20 : tie.Need-cast-t20
+cast-t20 c = search needs
+
 returns-4 : tie.Need-returns-4
 returns-4 c =
     let at = c .before in
     let tree = at .before in
     let tokens = tree .before .before .before in
     sets-refused _ _ _ _ _ (one (tokens .before .before .before .before)) (two tokens) (three tree) (at .node-count .ensures) (omega arith)
+
+cast-t21 : tie.Need-cast-t21
+cast-t21 c = search needs
 
 returns-5 : tie.Need-returns-5
 returns-5 c =
@@ -116,8 +122,8 @@ number-requires c κs = search needs
 place-requires : tie.Need-place-requires
 place-requires c κs = search needs
 
-cast-t22 : tie.Need-cast-t22
-cast-t22 c = search needs
+cast-t24 : tie.Need-cast-t24
+cast-t24 c = search needs
 
 returns-6 : tie.Need-returns-6
 returns-6 c =
@@ -161,13 +167,15 @@ refusal-spec =
     cast-nodes
     mul-if1
     mul-t19
+    cast-t20
     returns-4
+    cast-t21
     returns-5
     derive-requires
     enum-known-derivation
     number-requires
     place-requires
-    cast-t22
+    cast-t24
     returns-6
     enum-told-4
     returns-7)

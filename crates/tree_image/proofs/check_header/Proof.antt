@@ -6,6 +6,9 @@ use Rattle.fields.proofs.Searching.{tests, pass, fail, done}
 use Rattle.tree_image.proofs.check_header.Statement.{statement}
 use Rattle.tree_image.proofs.check_header.Tie as tie
 
+cast-t6 : tie.Need-cast-t6
+cast-t6 c = search needs
+
 returns : tie.Need-returns
 unfolding headerFields
 returns c = fail _ _ (omega tests) refl
@@ -59,6 +62,7 @@ pub check-header-spec : {M : Type 1} → statement M
 check-header-spec =
     tie.close
     (tie.spec
+    cast-t6
     returns
     field-at-requires
     returns-2

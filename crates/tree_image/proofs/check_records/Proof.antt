@@ -57,6 +57,9 @@ add-at c = omega arith
 field-at-requires-2 : tie.Need-field-at-requires-2 Inv-loop μ-loop Inv-search μ-search
 field-at-requires-2 c κs = search needs
 
+cast-fault : tie.Need-cast-fault Inv-loop μ-loop Inv-search μ-search
+cast-fault c = omega arith
+
 add-n : tie.Need-add-n Inv-loop μ-loop Inv-search μ-search
 add-n c = omega arith
 
@@ -115,6 +118,7 @@ check-records-spec =
     mul-at
     add-at
     field-at-requires-2
+    cast-fault
     add-n
     loop-less
     loop-again

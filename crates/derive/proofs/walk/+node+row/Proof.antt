@@ -5,6 +5,7 @@ use mathlib.Core.Path.{_≡_, refl, sym, ap, _∙_}
 use mathlib.Core.Logic.{⊎-elim}
 use Prim.Native.Nat.{ℕ, _<_, _≤_, _+_, _*_, _-_}
 use native.Mathlib.Omega.{arith}
+use Rattle.fields.specs.Images.{images}
 use Rattle.rules.specs.Walk.{symbolDue}
 use Rattle.fields.specs.Fields.{listFrom}
 use Rattle.grammar_image.specs.GrammarImage.{symbolAt}
@@ -52,8 +53,8 @@ row-below t = and 3 row-kinds.ps (falls 3 row-kinds.ps _<_ μ-row t) row.Pre
 abbrev row-Inv-loop : row-lts.InvT-loop
 row-Inv-loop grammar tokens tree levels first count n k start end node₀ token₀ y₀ next-node next-token y =
     (end ≡ first + count) × (y ≤ end)
-    × (rowDueIn grammar tokens tree levels (listFrom y (end - y) (symbolAt grammar)) next-node next-token
-    ≡ rowDueIn grammar tokens tree levels (listFrom first count (symbolAt grammar)) n k)
+    × (rowDueIn (images grammar tokens tree) levels (listFrom y (end - y) (symbolAt grammar)) next-node next-token
+    ≡ rowDueIn (images grammar tokens tree) levels (listFrom first count (symbolAt grammar)) n k)
 
 abbrev row-μ-loop : row-lts.MeasureT-loop
 row-μ-loop grammar tokens tree levels first count n k start end node₀ token₀ y₀ next-node next-token y = end - y
@@ -122,7 +123,7 @@ module _ (t : ℕ) where
       let turn = c .before .before .before .before in
       let args = turn .before .before .before .before .args in
       walkedAs (c .if1 .walked)
-      ≡ symbolDue (tokensOf (now (args .tokens))) (nodeDueIn (now (args .grammar)) (now (args .tokens)) (now (args .tree)) (args .levels)) (symbolAt (now (args .grammar)) (turn .loop .y)) (turn .loop .next-node) (turn .loop .next-token)
+      ≡ symbolDue (tokensOf (now (args .tokens))) (nodeDueIn (images (now (args .grammar)) (now (args .tokens)) (now (args .tree))) (args .levels)) (symbolAt (now (args .grammar)) (turn .loop .y)) (turn .loop .next-node) (turn .loop .next-token)
   symbol-walked c =
       let read = c .before .before .symbol-at .ensures in
       ⊎-elim

@@ -6,6 +6,7 @@ use mathlib.Core.List.{List}
 use lib.ListN.{length}
 use Prim.Native.Nat.{ℕ, _<_, _≤_, _+_, _*_, _-_}
 use native.Mathlib.Omega.{arith}
+use Rattle.fields.specs.Images.{images}
 use Rattle.rules.specs.Tree.{Row}
 use Rattle.rules.specs.Stored.{unbounded}
 use Rattle.rules.specs.Interval.{allSet, meet}
@@ -62,9 +63,9 @@ abbrev row-Inv-loop : row-lts.InvT-loop
 row-Inv-loop grammar tokens tree sets₀ first end n k left₀ next-node₀ next-token₀ y₀ sets left next-node next-token y =
     (n ≤ next-node)
     × (length sets ≡ length sets₀)
-    × SomeRow grammar tokens tree (symbols grammar y end) next-node next-token
-    × ((final : List ℕ) (r : Passed) → ((R : Row) → RowIn grammar tokens tree (symbols grammar y end) next-node next-token R → RowPassed grammar R (symbols grammar y end) left next-node next-token sets final r) →
-    (R : Row) → RowIn grammar tokens tree (symbols grammar first end) n k R → RowPassed grammar R (symbols grammar first end) (allSet unbounded) n k sets₀ final r)
+    × SomeRow (images grammar tokens tree) (symbols grammar y end) next-node next-token
+    × ((final : List ℕ) (r : Passed) → ((R : Row) → RowIn (images grammar tokens tree) (symbols grammar y end) next-node next-token R → RowPassed grammar R (symbols grammar y end) left next-node next-token sets final r) →
+    (R : Row) → RowIn (images grammar tokens tree) (symbols grammar first end) n k R → RowPassed grammar R (symbols grammar first end) (allSet unbounded) n k sets₀ final r)
 
 abbrev row-μ-loop : row-lts.MeasureT-loop
 row-μ-loop grammar tokens tree sets₀ first end n k left₀ next-node₀ next-token₀ y₀ sets left next-node next-token y = end - y

@@ -35,6 +35,9 @@ mul-if1 c = omega arith
 shared-slice-read-if1 : tie.Need-shared-slice-read-if1 Inv-loop μ-loop
 shared-slice-read-if1 c = omega arith
 
+cast-t8 : tie.Need-cast-t8 Inv-loop μ-loop
+cast-t8 c = omega arith
+
 returns : tie.Need-returns Inv-loop μ-loop
 returns c =
     let at-loop = c .before .before .before in
@@ -73,6 +76,7 @@ check-columns-spec =
     loop-holds
     mul-if1
     shared-slice-read-if1
+    cast-t8
     returns
     add-k
     loop-less

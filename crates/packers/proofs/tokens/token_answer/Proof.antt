@@ -35,12 +35,18 @@ mul-needed c = search needs
 add-needed : tie.Need-add-needed
 add-needed c = search needs
 
+cast-t10 : tie.Need-cast-t10
+cast-t10 c = search needs
+
 returns-4 : tie.Need-returns-4
 returns-4 c =
     let at-told = c .before in
     let at-check = at-told .before .before in
     let at-if2 = at-check .before in
     tokens-room _ _ _ (at-if2 .before .if1 .left) (at-if2 .if2 .left) (sym (at-told .enum-told .given .1) ∙ at-check .check-columns .ensures) (c .if3 .taken)
+
+cast-t11 : tie.Need-cast-t11
+cast-t11 c = search needs
 
 returns-5 : tie.Need-returns-5
 returns-5 c =
@@ -62,5 +68,7 @@ token-answer-spec =
     enum-told
     mul-needed
     add-needed
+    cast-t10
     returns-4
+    cast-t11
     returns-5)

@@ -19,8 +19,14 @@ mul-needed c = search needs
 add-needed : tie.Need-add-needed
 add-needed c = search needs
 
+cast-t7 : tie.Need-cast-t7
+cast-t7 c = search needs
+
 returns-3 : tie.Need-returns-3
 returns-3 c = tree-room _ _ (c .before .before .if1 .left) (c .before .if2 .left) (c .if3 .taken)
+
+cast-t8 : tie.Need-cast-t8
+cast-t8 c = search needs
 
 returns-4 : tie.Need-returns-4
 returns-4 c = tree-written _ _ (c .before .before .if1 .left) (c .before .if2 .left) (c .if3 .left)
@@ -34,5 +40,7 @@ tree-answer-spec =
     returns-2
     mul-needed
     add-needed
+    cast-t7
     returns-3
+    cast-t8
     returns-4)

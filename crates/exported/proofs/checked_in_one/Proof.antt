@@ -1,0 +1,19 @@
+-- `exported::checked_in_one` meets its contract: number and place are those of the answer.
+use borrow.Author.Needs.{needs}
+use Rattle.exported.proofs.checked_in_one.Statement.{statement}
+use Rattle.exported.proofs.checked_in_one.Tie as tie
+
+number-requires : tie.Need-number-requires
+number-requires c κs = search needs
+
+place-requires : tie.Need-place-requires
+place-requires c κs = search needs
+
+in-one-requires : tie.Need-in-one-requires
+in-one-requires c κs = search needs
+
+returns : tie.Need-returns
+returns c = cc
+
+pub checked-in-one-spec : {M : Type 1} → statement M
+checked-in-one-spec = tie.close (tie.spec number-requires place-requires in-one-requires returns)

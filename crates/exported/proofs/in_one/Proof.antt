@@ -1,0 +1,24 @@
+-- `exported::in_one` meets its contract: the sum is the definition, and the greatest of each fit 64 bits together.
+use borrow.Author.Needs.{needs}
+use Rattle.exported.specs.Calls.{inOne}
+use Rattle.exported.proofs.in_one.Statement.{statement}
+use Rattle.exported.proofs.in_one.Tie as tie
+
+mul-result : tie.Need-mul-result
+mul-result c = search needs
+
+add-result : tie.Need-add-result
+add-result c = search needs
+
+mul-result-2 : tie.Need-mul-result-2
+mul-result-2 c = search needs
+
+add-result-2 : tie.Need-add-result-2
+add-result-2 c = search needs
+
+returns : tie.Need-returns
+unfolding inOne
+returns c = search needs
+
+pub in-one-spec : {M : Type 1} → statement M
+in-one-spec = tie.close (tie.spec mul-result add-result mul-result-2 add-result-2 returns)

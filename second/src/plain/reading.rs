@@ -1,0 +1,19 @@
+//! How document 01 is read at three points where a reader slips easily.
+//!
+//! The defaults are the right reading, the only one that a program runs. A
+//! test takes one of them wrongly and demands that the comparison finds it.
+//! All are constants, so that the right reading costs nothing.
+
+pub trait Reading {
+    /// How far a child under > stands to the right of its node, at least.
+    const STEP: i16 = 1;
+    /// Whether an empty set makes the set above it empty through a free
+    /// relation too.
+    const EMPTY_PASSES_FREE: bool = true;
+    /// Whether a symbol's relation has to be one of the four.
+    const RELATION_TESTED: bool = true;
+}
+
+pub struct Right;
+
+impl Reading for Right {}

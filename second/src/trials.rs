@@ -1,0 +1,81 @@
+//! Fixed calls with answers written by hand from document 01, for what only a
+//! call can show: the checks of a single image, both packers, and the check
+//! with lists that are too short.
+//!
+//! A trial is a line of what has to come back: a label, then number and place;
+//! for a packer also the length, for the check what it wrote to the two lists.
+//! How many other entries changed is told where any did, which is in no line.
+
+mod grammar;
+mod limits;
+mod packing;
+mod refusals;
+mod sheet;
+
+use crate::build::{changed, Change};
+use crate::subject::{Answer, Subject};
+use std::fmt::Display;
+
+/// How many lines were tried on a subject, and those that came out otherwise.
+pub struct Trials {
+    pub tried: usize,
+    pub faults: Vec<String>,
+}
+
+pub fn run(subject: &Subject) -> Trials {
+    let mut trials = Trials {
+        tried: 0,
+        faults: Vec::new(),
+    };
+    grammar::run(subject, &mut trials);
+    sheet::run(subject, &mut trials);
+    limits::run(subject, &mut trials);
+    packing::run(subject, &mut trials);
+    refusals::run(subject, &mut trials);
+    trials
+}
+
+impl Trials {
+    /// Holds what came back, behind the line's own label, against the line.
+    fn line(&mut self, line: &str, given: impl Display) {
+        self.tried += 1;
+        let (label, _) = line
+            .split_once(": ")
+            .expect("a label stands before a colon");
+        let given = format!("{label}: {given}");
+        if given != line {
+            self.faults
+                .push(format!("expected {line}\n   given {given}"));
+        }
+    }
+
+    /// An image with some fields changed, then cut or filled up with zeros to
+    /// this length, and the answer of its check.
+    fn image(
+        &mut self,
+        (line, changes, length): Changed,
+        image: &[u8],
+        check: impl Fn(&[u8]) -> Answer,
+    ) {
+        let mut image = changed(image.to_vec(), changes);
+        image.resize(length, 0);
+        self.line(line, check(&image));
+    }
+}
+
+/// A line, the fields that are changed for it, and the length of the image.
+type Changed<'a> = (&'a str, &'a [Change], usize);
+
+/// Numbers with a blank between them.
+fn numbers<T: Display>(list: &[T]) -> String {
+    let words: Vec<String> = list.iter().map(T::to_string).collect();
+    words.join(" ")
+}
+
+/// How many entries changed that are not named by the answer.
+fn outside(count: usize) -> String {
+    match count {
+        0 => String::new(),
+        _ => format!(", outside {count}"),
+    }
+}

@@ -1,0 +1,144 @@
+//! Refusals 1 to 4 by the check, on the images of sheet A, which has 9 nodes:
+//! the first in the order of document 01's table is given, whatever is wrong
+//! with what is tested later.
+
+use super::{numbers, outside, Trials};
+use crate::build::{changed, token_image, tree_image, trial, Change, A_TOKENS, A_TREE};
+use crate::lent::Lent;
+use crate::subject::Subject;
+
+/// What each entry of a list is before the check has it.
+const MARK: u32 = 4_000_000_000;
+
+/// Room for the sets and the indentations of every tree, and some more.
+const ROOM: [usize; 2] = [8200, 4100];
+
+type Changes = &'static [Change];
+
+/// A line, and the fields of grammar, token and tree image that are changed;
+/// no entries are lent. Sheet A's own fields are 3 terminals, 4 tokens and 9
+/// nodes, at byte 0 of each image.
+const FAULTS: [(&str, [Changes; 3]); 7] = [
+    (
+        "All three counts: 1 0",
+        [&[(0, 0)], &[(0, 4097)], &[(0, 0)]],
+    ),
+    (
+        "last symbol, token and node: 1 82",
+        [&[(82, 4)], &[(18, 3)], &[(22, 6)]],
+    ),
+    ("token and node count: 2 0", [&[], &[(0, 4097)], &[(0, 0)]]),
+    ("last token and node: 2 18", [&[], &[(18, 3)], &[(22, 6)]]),
+    ("last column: 2 20", [&[], &[(20, 4096)], &[]]),
+    ("node count: 3 0", [&[], &[], &[(0, 0)]]),
+    ("last node: 3 22", [&[], &[], &[(22, 6)]]),
+];
+
+/// A line, and the lengths that grammar, token and tree image are cut to.
+const LENGTHS: [(&str, [usize; 3]); 7] = [
+    ("15, 5 and 5 bytes: 1 15", [15, 5, 5]),
+    ("84, 5 and 5 bytes: 2 5", [84, 5, 5]),
+    ("84, 22 and 5 bytes: 3 5", [84, 22, 5]),
+    ("83, 21 and 23 bytes: 1 14", [83, 21, 23]),
+    ("84, 21 and 23 bytes: 2 4", [84, 21, 23]),
+    ("84, 22 and 23 bytes: 3 4", [84, 22, 23]),
+    ("no bytes: 1 0", [0, 0, 0]),
+];
+
+/// Token 0 is refused by the derivation as an hour.
+const HOUR_FIRST: Changes = &[(6, 1)];
+
+/// With the item at column 3 the root's set is empty.
+const ITEM_AT_3: Changes = &[(16, 3)];
+
+/// A line, the fields of grammar and token image that are changed, and how
+/// many entries of sets and indentations are lent.
+const ROOMS: [(&str, [Changes; 2], [usize; 2]); 10] = [
+    ("17 sets, 9 indentations: 4 18", [&[], &[]], [17, 9]),
+    ("18 sets, 8 indentations: 4 9", [&[], &[]], [18, 8]),
+    ("17 sets, 8 indentations: 4 18", [&[], &[]], [17, 8]),
+    ("no entries: 4 18", [&[], &[]], [0, 0]),
+    ("17 sets, token 0 an hour: 4 18", [&[], HOUR_FIRST], [17, 9]),
+    ("8 indentations, item at 3: 4 9", [&[], ITEM_AT_3], [18, 8]),
+    (
+        "18 sets, 9 indentations: 0 0, \
+         sets 1 1 3 3 3 3 0 5 0 4294967295 3 3 3 3 0 4294967295 0 4294967295, \
+         indentations 1 3 3 4 4 3 3 4 3",
+        [&[], &[]],
+        [18, 9],
+    ),
+    (
+        "18 and 9, item at 3: 12 2, \
+         sets 1 0 1 0 1 0 0 3 0 4294967295 3 3 3 3 0 4294967295 0 4294967295",
+        [&[], ITEM_AT_3],
+        [18, 9],
+    ),
+    ("18 and 9, token 0 an hour: 7 0", [&[], HOUR_FIRST], [18, 9]),
+    ("a terminal more: 7 3", [&[(0, 4)], &[(18, 3)]], [18, 9]),
+];
+
+pub fn run(subject: &Subject, trials: &mut Trials) {
+    for (line, [grammar, tokens, tree]) in FAULTS {
+        checked(
+            subject,
+            trials,
+            line,
+            sheet_a(grammar, tokens, tree),
+            [0, 0],
+        );
+    }
+    for (line, lengths) in LENGTHS {
+        let mut images = sheet_a(&[], &[], &[]);
+        for (image, length) in images.iter_mut().zip(lengths) {
+            image.truncate(length);
+        }
+        checked(subject, trials, line, images, ROOM);
+    }
+    for (line, [grammar, tokens], room) in ROOMS {
+        checked(subject, trials, line, sheet_a(grammar, tokens, &[]), room);
+    }
+}
+
+fn sheet_a(grammar: Changes, tokens: Changes, tree: Changes) -> [Vec<u8>; 3] {
+    [
+        changed(trial(), grammar),
+        changed(token_image(&A_TOKENS), tokens),
+        changed(tree_image(&A_TREE), tree),
+    ]
+}
+
+/// Number and place, and of sheet A's lists what the answer says is written.
+fn checked(
+    subject: &Subject,
+    trials: &mut Trials,
+    line: &str,
+    [grammar, tokens, tree]: [Vec<u8>; 3],
+    room: [usize; 2],
+) {
+    let mut sets = Lent::default();
+    let mut indentations = Lent::default();
+    let answer = (subject.check)(
+        &grammar,
+        &tokens,
+        &tree,
+        sets.lend(room[0], MARK),
+        indentations.lend(room[1], MARK),
+    );
+    let named = match answer.number {
+        0 => [18, 9],
+        12 => [18, 0],
+        _ => [0, 0],
+    };
+    let mut given = answer.to_string();
+    for (name, list, named) in [
+        ("sets", &sets, named[0]),
+        ("indentations", &indentations, named[1]),
+    ] {
+        if named > 0 {
+            let written = list.part().get(..named).unwrap_or(list.part());
+            given += &format!(", {name} {}", numbers(written));
+        }
+    }
+    given += &outside(sets.outside(named[0]) + indentations.outside(named[1]));
+    trials.line(line, given);
+}
