@@ -71,7 +71,10 @@ impl Worker {
             .compare(&mut turn)
             .and_then(|()| images::compare(&mut turn))
             .and_then(|()| self.packers.compare(&mut turn))
-            .map_err(|text| format!("{text}\n{}", hex(&images)))?;
+            .map_err(|text| {
+                let every = run.definition_every;
+                format!("--definition-every {every}: {text}\n{}", hex(&images))
+            })?;
         self.tally.inputs += 1;
         Ok(())
     }

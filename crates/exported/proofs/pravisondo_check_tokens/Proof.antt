@@ -1,5 +1,7 @@
 -- `exported::pravisondo_check_tokens` meets its contract: the answer is the check's.
+use mathlib.Core.Path.{ap, _∙_}
 use borrow.Author.Needs.{needs}
+use Rattle.exported.specs.Calls.{checkedIn}
 use Rattle.exported.proofs.pravisondo_check_tokens.Statement.{statement}
 use Rattle.exported.proofs.pravisondo_check_tokens.Tie as tie
 
@@ -10,7 +12,7 @@ checked-in-one-requires : tie.Need-checked-in-one-requires
 checked-in-one-requires c κs = search needs
 
 returns : tie.Need-returns
-returns c = cc
+returns c = c .checked-in-one .ensures ∙ ap (checkedIn 2) (c .before .check-tokens .ensures)
 
 pub pravisondo-check-tokens-spec : {M : Type 1} → statement M
 pravisondo-check-tokens-spec =

@@ -1,0 +1,46 @@
+"""What the sources keep that no proof says.
+
+    python3 tests/sources.py
+
+- What people read who do not prove, the code with its contracts, the definitions and the desk's conditions, fits
+  120 columns.
+- A field is read by its byte in the crates of the images alone: all else reads images by a record's number.
+"""
+
+import pathlib
+import re
+import sys
+
+CRATES = pathlib.Path(__file__).resolve().parent.parent / "crates"
+COLUMNS = 120
+IMAGES = {"fields", "grammar_image", "token_image", "tree_image"}
+
+
+def wide_lines():
+    read = [*CRATES.glob("*/src/**/*.rt"), *CRATES.glob("*/specs/**/*.antt"), CRATES / "judge/proofs/Demands.antt"]
+    for path in read:
+        for number, line in enumerate(path.read_text().splitlines(), 1):
+            if len(line) > COLUMNS:
+                yield f"{path.relative_to(CRATES)}:{number}: {len(line)} columns"
+
+
+def readers_by_byte():
+    for path in CRATES.glob("*/src/**/*.rt"):
+        crate = path.relative_to(CRATES).parts[0]
+        if crate not in IMAGES and re.search(r"\b(field_at|byte_at)\b", path.read_text()):
+            yield f"{path.relative_to(CRATES)} reads an image by a byte"
+
+
+def main():
+    passed = failed = 0
+    for check in (wide_lines, readers_by_byte):
+        found = list(check())
+        print(*found, sep="\n", end="\n" if found else "")
+        failed += bool(found)
+        passed += not found
+    print(f"sources: {passed} passed, {failed} failed")
+    return 1 if failed else 0
+
+
+if __name__ == "__main__":
+    sys.exit(main())
