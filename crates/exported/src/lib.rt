@@ -6,10 +6,10 @@ use fields::Checked;
 use grammar_image::check_grammar;
 use judge::check;
 use packers::Packed;
-use packers::pack_tokens;
-use packers::pack_tree;
 use token_image::check_tokens;
+use token_packer::pack_tokens;
 use tree_image::check_tree;
+use tree_packer::pack_tree;
 ghost use mathlib.Core.Path.{_≡_};
 ghost use Rattle.fields.specs.Fields.{firstFault};
 ghost use Rattle.fields.specs.Images.{images};
@@ -82,7 +82,7 @@ pub extern "C" fn pravisondo_check_tree(image: &[u8], productions: u16) -> u64
     checked_in_one(check_tree(image, productions), 3)
 }
 
-// `packers::pack_tree`.
+// `tree_packer::pack_tree`.
 #[no_mangle]
 pub extern "C" fn pravisondo_pack_tree(productions: &[u16], output: &mut [u8]) -> u64
     ensures { λ r. ⌜ TreeCalled (now (productions .entry)) (now (output .entry)) r (now (output .exit)) ⌝ }
@@ -90,7 +90,7 @@ pub extern "C" fn pravisondo_pack_tree(productions: &[u16], output: &mut [u8]) -
     packed_in_one(pack_tree(productions, output))
 }
 
-// `packers::pack_tokens`.
+// `token_packer::pack_tokens`.
 #[no_mangle]
 pub extern "C" fn pravisondo_pack_tokens(
     terminals: &[u16],

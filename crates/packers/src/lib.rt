@@ -1,10 +1,4 @@
-// The two packers: a list of production numbers to a tree image, and two lists, of terminals and of
-// columns, to a token image. A packer that refuses writes nothing.
-mod tokens;
-mod tree;
-
-pub use tokens::pack_tokens;
-pub use tree::pack_tree;
+// What the two packers share: what they answer, and how a field and a header are written.
 ghost use mathlib.Core.Path.{_≡_};
 ghost use mathlib.Core.List.{[], _∷_, _++_};
 ghost use Prim.Native.Nat.{_+_, _*_, _%_, _/_, _≤_, _<_};
@@ -63,7 +57,7 @@ impl Packed {
 }
 
 // Field i of the output, low byte first.
-fn put(out: &mut [u8], i: usize, value: u16)
+pub fn put(out: &mut [u8], i: usize, value: u16)
     requires { ⌜ (2 * i + 1 < length (now out)) × (i < 65536) ⌝ }
     ensures { λ _. ⌜ now (out .exit) ≡ set (set (now (out .entry)) (2 * i) (value % 256)) (2 * i + 1) (value / 256) ⌝ }
 {
@@ -73,7 +67,7 @@ fn put(out: &mut [u8], i: usize, value: u16)
 }
 
 // The header of a tree image or a token image: count, offset, total length.
-fn put_header(out: &mut [u8], count: u16, total: u16)
+pub fn put_header(out: &mut [u8], count: u16, total: u16)
     requires { ⌜ 6 ≤ length (now out) ⌝ }
     ensures { λ _. ⌜ now (out .exit) ≡ bytesOf (count ∷ 6 ∷ total ∷ []) ++ drop 6 (now (out .entry)) ⌝ }
 {

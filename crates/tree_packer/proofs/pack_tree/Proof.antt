@@ -1,14 +1,14 @@
--- `packers::tree::pack_tree` meets its contract: what is written is the image, where the answer says so, and nothing elsewhere.
+-- `tree_packer::pack_tree` meets its contract: what is written is the image, where the answer says so, and nothing elsewhere.
 use borrow.Author.Needs.{needs}
 use native.Mathlib.Omega.{arith}
 use mathlib.Core.Path.{sym, _∙_}
 use lib.ListN.{length}
 use denote.Ref.{now}
 use Rattle.packers.specs.Packing.{treeImage}
 use Rattle.packers.proofs.Packing.{tree-fits}
 use Rattle.packers.proofs.Refused.{refused}
-use Rattle.packers.proofs.tree.pack_tree.Statement.{statement}
-use Rattle.packers.proofs.tree.pack_tree.Tie as tie
+use Rattle.tree_packer.proofs.pack_tree.Statement.{statement}
+use Rattle.tree_packer.proofs.pack_tree.Tie as tie
 
 tree-answer-requires : tie.Need-tree-answer-requires
 tree-answer-requires c κs = search needs

@@ -1,8 +1,8 @@
--- `packers::tree::tree_answer` meets its contract: each test of the code decides one of the answer's tests.
+-- `tree_packer::tree_answer` meets its contract: each test of the code decides one of the answer's tests.
 use borrow.Author.Needs.{needs}
 use Rattle.packers.proofs.Packing.{tree-few, tree-many, tree-room, tree-written}
-use Rattle.packers.proofs.tree.tree_answer.Statement.{statement}
-use Rattle.packers.proofs.tree.tree_answer.Tie as tie
+use Rattle.tree_packer.proofs.tree_answer.Statement.{statement}
+use Rattle.tree_packer.proofs.tree_answer.Tie as tie
 
 returns : tie.Need-returns
 returns c = tree-few _ _ (c .if1 .taken)

@@ -4,10 +4,10 @@ use Prim.Native.Nat.{_+_, _*_, _-_, _≤_}
 use native.Mathlib.Omega.{arith}
 use denote.Ref.{now}
 use lib.ListN.{length}
 use Rattle.packers.specs.Packing.{tokenImage}
 use Rattle.packers.proofs.Packing.{tokenList, started, Grown, put-grows, length-inTurn, terminal-field, column-field, all-written}
-use Rattle.packers.proofs.tokens.write_tokens.Statement.{statement}
-use Rattle.packers.proofs.tokens.write_tokens.Tie as tie
+use Rattle.token_packer.proofs.write_tokens.Statement.{statement}
+use Rattle.token_packer.proofs.write_tokens.Tie as tie
 
 abbrev Inv-loop : tie.InvT-loop
 Inv-loop terminals columns out₀ count k₀ out k = (k ≤ count) × (length out ≡ length out₀) × Grown (tokenList terminals columns) (3 + 2 * k) out₀ out

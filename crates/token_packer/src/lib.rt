@@ -1,8 +1,8 @@
 // Two lists, of terminals and of columns, to a token image. Terminal numbers are not judged.
-use crate::Packed;
-use crate::put;
-use crate::put_header;
 use fields::Checked;
+use packers::Packed;
+use packers::put;
+use packers::put_header;
 use rules::COLUMN;
 use rules::TOKENS;
 ghost use mathlib.Core.Path.{_≡_};

@@ -10,10 +10,10 @@ use lib.ListN.{length, getD}
 use borrow.Author.Tests.{le-leb, lt-leb}
 use Rattle.rules.specs.Limits.{maxColumn}
 use Rattle.fields.specs.Fields.{Field, field, eachFrom, firstFault}
 use Rattle.packers.specs.Packing.{columnFields}
 use Rattle.fields.proofs.Searching.{pass, fail, done, each-first, each-none}
-use Rattle.packers.proofs.tokens.check_columns.Statement.{statement}
-use Rattle.packers.proofs.tokens.check_columns.Tie as tie
+use Rattle.token_packer.proofs.check_columns.Statement.{statement}
+use Rattle.token_packer.proofs.check_columns.Tie as tie
 
 abbrev fields : List ℕ → ℕ → List Field
 fields columns k = field k (leb (getD columns k 0) maxColumn) ∷ []

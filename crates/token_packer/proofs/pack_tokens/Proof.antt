@@ -1,14 +1,14 @@
--- `packers::tokens::pack_tokens` meets its contract: what is written is the image, where the answer says so, and nothing elsewhere.
+-- `token_packer::pack_tokens` meets its contract: what is written is the image, where the answer says so, and nothing elsewhere.
 use borrow.Author.Needs.{needs}
 use native.Mathlib.Omega.{arith}
 use mathlib.Core.Path.{sym, _∙_}
 use lib.ListN.{length}
 use denote.Ref.{now}
 use Rattle.packers.specs.Packing.{tokenImage}
 use Rattle.packers.proofs.Packing.{tokens-fit}
 use Rattle.packers.proofs.Refused.{refused}
-use Rattle.packers.proofs.tokens.pack_tokens.Statement.{statement}
-use Rattle.packers.proofs.tokens.pack_tokens.Tie as tie
+use Rattle.token_packer.proofs.pack_tokens.Statement.{statement}
+use Rattle.token_packer.proofs.pack_tokens.Tie as tie
 
 token-answer-requires : tie.Need-token-answer-requires
 token-answer-requires c κs = search needs

@@ -1,9 +1,9 @@
--- `packers::tokens::token_answer` meets its contract: each test of the code decides one of the answer's tests.
+-- `token_packer::token_answer` meets its contract: each test of the code decides one of the answer's tests.
 use mathlib.Core.Path.{sym, _∙_}
 use borrow.Author.Needs.{needs}
 use Rattle.packers.proofs.Packing.{tokens-unequal, tokens-many, tokens-column, tokens-room, tokens-written}
-use Rattle.packers.proofs.tokens.token_answer.Statement.{statement}
-use Rattle.packers.proofs.tokens.token_answer.Tie as tie
+use Rattle.token_packer.proofs.token_answer.Statement.{statement}
+use Rattle.token_packer.proofs.token_answer.Tie as tie
 
 returns : tie.Need-returns
 returns c = tokens-unequal _ _ _ (c .if1 .taken)

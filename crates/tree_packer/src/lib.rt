@@ -1,14 +1,14 @@
 // A list of production numbers to a tree image. Production numbers are not judged.
-use crate::Packed;
-use crate::put;
-use crate::put_header;
+use packers::Packed;
+use packers::put;
+use packers::put_header;
 use rules::NODES;
 ghost use mathlib.Core.Path.{_≡_};
 ghost use mathlib.Core.List.{_++_};
 ghost use Prim.Native.Nat.{_+_, _*_, _≤_};
 ghost use lib.ListN.{length, drop};
 ghost use Rattle.rules.specs.Limits.{maxNodes};
 ghost use Rattle.packers.specs.Packing.{treeImage, treeAnswer, TreePacked};
 
 // The answer, from the list and the room alone.
 fn tree_answer(productions: &[u16], room: usize) -> Packed

@@ -4,10 +4,10 @@ use Prim.Native.Nat.{_+_, _*_, _-_, _≤_}
 use native.Mathlib.Omega.{arith}
 use denote.Ref.{now}
 use lib.ListN.{length}
 use Rattle.packers.specs.Packing.{treeImage}
 use Rattle.packers.proofs.Packing.{treeList, started, Grown, put-grows, past-header, all-written}
-use Rattle.packers.proofs.tree.write_tree.Statement.{statement}
-use Rattle.packers.proofs.tree.write_tree.Tie as tie
+use Rattle.tree_packer.proofs.write_tree.Statement.{statement}
+use Rattle.tree_packer.proofs.write_tree.Tie as tie
 
 abbrev Inv-loop : tie.InvT-loop
 Inv-loop productions out₀ count n₀ out n = (n ≤ count) × (length out ≡ length out₀) × Grown (treeList productions) (3 + n) out₀ out
