@@ -24,10 +24,12 @@ use Rattle.tree_image.specs.TreeImage.{nodeCount, nodesOf}
 use Rattle.token_image.proofs.Columns.{columns-kept}
 use Rattle.tree_image.proofs.Lists.{length-nodes}
 use Rattle.layout.specs.Standing.{TreeIn, TreeListed, SomeTree, SomeTreeListed}
-use Rattle.layout.specs.Passes.{writtenAt, NodePassed, AllUpTo, NodeGiven}
-use Rattle.layout.specs.declared.sets.Passed.{Passed}
-use Rattle.layout.proofs.LeastNumbers.{up-to}
+use Rattle.layout.specs.Written.{writtenAt}
 use Rattle.layout.proofs.HighestEmpty.{highest-append}
+use Rattle.set_pass.specs.Passes.{NodePassed}
+use Rattle.set_pass.specs.declared.Passed.{Passed}
+use Rattle.indentation_pass.specs.Passes.{AllUpTo, NodeGiven}
+use Rattle.indentation_pass.proofs.LeastNumbers.{up-to}
 use Rattle.judge.specs.Judged.{Lists, entriesOf, tests, firstRefusal, Fitting, DerivesIn, lists, written, Judged}
 use Rattle.judge.proofs.Passed.{all-passed}
 

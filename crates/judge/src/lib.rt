@@ -5,7 +5,7 @@ use derive::derive;
 use fields::Checked;
 use grammar_image::check_grammar;
 use grammar_image::counts_at;
-use layout::sets::highest_empty;
+use layout::highest_empty;
 use token_image::check_tokens;
 use tree_image::check_tree;
 use tree_image::node_count;
@@ -94,7 +94,7 @@ pub fn check(
     if first.number != 0 {
         return first;
     }
-    let root = layout::sets::node(grammar, tokens, tree, sets, 0, 0);
+    let root = set_pass::node(grammar, tokens, tree, sets, 0, 0);
     if root.set.high < root.set.low {
         let node = highest_empty(sets, node_count(tree));
         return Answer {
@@ -102,7 +102,7 @@ pub fn check(
             place: node as u32,
         };
     }
-    layout::indentations::node(grammar, tree, sets, indentations, 0, root.set.low);
+    indentation_pass::node(grammar, tree, sets, indentations, 0, root.set.low);
     Answer {
         number: 0,
         place: 0,

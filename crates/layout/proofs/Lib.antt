@@ -1,9 +1,5 @@
--- Laws of the two passes.
+-- Laws that both passes use, and of the sets in their list.
 pub mod HighestEmpty
-pub mod IndentationPass
-pub mod LeastNumbers
-pub mod Promised
 pub mod Rows
-pub mod SetPass
 pub mod Standing
 pub mod Written

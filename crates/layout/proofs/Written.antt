@@ -7,7 +7,7 @@ use native.Mathlib.Numerals.{add-one}
 use native.Mathlib.Omega.{arith}
 use lib.ListN.{length, take, drop, length-append, take-append-drop, set}
 use lib.Seq.{length-take-le, take-at, drop-at, take-take, take-append-le, drop-drop, set-split, sets-eq}
-use Rattle.layout.specs.Passes.{writtenAt}
+use Rattle.layout.specs.Written.{writtenAt}
 
 -- nothing written
 pub written-none : (at : ℕ) (old : List ℕ) → writtenAt at [] old ≡ old

@@ -1,3 +1,3 @@
--- What the two passes take and give. No promise to the desk names it.
-pub mod Passes
+-- What the two passes take, and how they write. No promise to the desk names it.
 pub mod Standing
+pub mod Written

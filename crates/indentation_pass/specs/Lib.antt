@@ -1,0 +1,2 @@
+-- What the indentation pass gives and writes. No promise to the desk names it.
+pub mod Passes

@@ -1,0 +1,3 @@
+-- Laws of the set pass.
+pub mod Promised
+pub mod SetPass

@@ -1,0 +1,2 @@
+-- What the set pass gives and writes. No promise to the desk names it.
+pub mod Passes
