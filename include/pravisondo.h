@@ -12,8 +12,7 @@
  *   thread uses them meanwhile. What a call is not said to write stays as it was.
  * - Nothing is allocated and nothing is kept from one call to the next. Calls may run side by side in threads, also
  *   on the same inputs.
- * - Some hundreds of KiB of stack are enough, for the deepest tree as well: docs/BENCHMARKS.md, "Stack", has what
- *   was measured.
+ * - A stack of 100 KiB is enough, for the deepest tree as well: docs/BENCHMARKS.md, "Stack", has what was measured.
  */
 #ifndef PRAVISONDO_H
 #define PRAVISONDO_H
