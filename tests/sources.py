@@ -16,16 +16,24 @@ COLUMNS = 120
 IMAGES = {"fields", "grammar_image", "token_image", "tree_image"}
 
 
+def files(*patterns):
+    """The files of each pattern, of which there must be some."""
+    for pattern in patterns:
+        paths = sorted(CRATES.glob(pattern))
+        if not paths:
+            sys.exit(f"sources: no file is called crates/{pattern}")
+        yield from paths
+
+
 def wide_lines():
-    read = [*CRATES.glob("*/src/**/*.rt"), *CRATES.glob("*/specs/**/*.antt"), CRATES / "judge/proofs/Demands.antt"]
-    for path in read:
+    for path in files("*/src/**/*.rt", "*/specs/**/*.antt", "judge/proofs/Demands.antt"):
         for number, line in enumerate(path.read_text().splitlines(), 1):
             if len(line) > COLUMNS:
                 yield f"{path.relative_to(CRATES)}:{number}: {len(line)} columns"
 
 
 def readers_by_byte():
-    for path in CRATES.glob("*/src/**/*.rt"):
+    for path in files("*/src/**/*.rt"):
         crate = path.relative_to(CRATES).parts[0]
         if crate not in IMAGES and re.search(r"\b(field_at|byte_at)\b", path.read_text()):
             yield f"{path.relative_to(CRATES)} reads an image by a byte"

@@ -10,32 +10,31 @@ use token_image::check_tokens;
 use token_packer::pack_tokens;
 use tree_image::check_tree;
 use tree_packer::pack_tree;
-ghost use mathlib.Core.Path.{_≡_};
 ghost use Rattle.fields.specs.Fields.{firstFault};
 ghost use Rattle.fields.specs.Images.{images};
 ghost use Rattle.grammar_image.specs.GrammarImage.{grammarFields};
 ghost use Rattle.token_image.specs.TokenImage.{tokenFields};
 ghost use Rattle.tree_image.specs.TreeImage.{treeFields};
 ghost use Rattle.judge.specs.Judged.{lists};
-ghost use Rattle.exported.specs.Calls.{inOne, checkedIn, packedIn, CheckCalled, TreeCalled, TokensCalled};
+ghost use Rattle.exported.specs.Calls.{Says, SaysChecked, SaysPacked, CheckCalled, TreeCalled, TokensCalled};
 
 // Number, length and place in one number.
 fn in_one(number: u8, length: u16, place: u32) -> u64
-    ensures { λ r. ⌜ r ≡ inOne number length place ⌝ }
+    ensures { λ r. ⌜ Says r number length place ⌝ }
 {
     (number as u64) + 256 * (length as u64) + 4294967296 * (place as u64)
 }
 
 // What the check of an image answers, by the number of its refusal.
 fn checked_in_one(checked: Checked, refusal: u8) -> u64
-    ensures { λ r. ⌜ r ≡ checkedIn refusal checked ⌝ }
+    ensures { λ r. ⌜ SaysChecked refusal checked r ⌝ }
 {
     in_one(checked.number(refusal), 0, checked.place())
 }
 
 // What a packer answers.
 fn packed_in_one(packed: Packed) -> u64
-    ensures { λ r. ⌜ r ≡ packedIn packed ⌝ }
+    ensures { λ r. ⌜ SaysPacked packed r ⌝ }
 {
     in_one(packed.number(), packed.length(), packed.place())
 }
@@ -61,7 +60,7 @@ pub extern "C" fn pravisondo_check(
 // `grammar_image::check_grammar`, with 1 for its refusal.
 #[no_mangle]
 pub extern "C" fn pravisondo_check_grammar(image: &[u8]) -> u64
-    ensures { λ r. ⌜ r ≡ checkedIn 1 (firstFault (grammarFields (now (image .entry)))) ⌝ }
+    ensures { λ r. ⌜ SaysChecked 1 (firstFault (grammarFields (now (image .entry)))) r ⌝ }
 {
     checked_in_one(check_grammar(image), 1)
 }
@@ -69,7 +68,7 @@ pub extern "C" fn pravisondo_check_grammar(image: &[u8]) -> u64
 // `token_image::check_tokens`, with 2 for its refusal.
 #[no_mangle]
 pub extern "C" fn pravisondo_check_tokens(image: &[u8], terminals: u16) -> u64
-    ensures { λ r. ⌜ r ≡ checkedIn 2 (firstFault (tokenFields terminals (now (image .entry)))) ⌝ }
+    ensures { λ r. ⌜ SaysChecked 2 (firstFault (tokenFields terminals (now (image .entry)))) r ⌝ }
 {
     checked_in_one(check_tokens(image, terminals), 2)
 }
@@ -77,7 +76,7 @@ pub extern "C" fn pravisondo_check_tokens(image: &[u8], terminals: u16) -> u64
 // `tree_image::check_tree`, with 3 for its refusal.
 #[no_mangle]
 pub extern "C" fn pravisondo_check_tree(image: &[u8], productions: u16) -> u64
-    ensures { λ r. ⌜ r ≡ checkedIn 3 (firstFault (treeFields productions (now (image .entry)))) ⌝ }
+    ensures { λ r. ⌜ SaysChecked 3 (firstFault (treeFields productions (now (image .entry)))) r ⌝ }
 {
     checked_in_one(check_tree(image, productions), 3)
 }

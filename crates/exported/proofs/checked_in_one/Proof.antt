@@ -1,4 +1,5 @@
 -- `exported::checked_in_one` meets its contract: number and place are those of the answer.
+use mathlib.Core.Path.{_∙_}
 use borrow.Author.Needs.{needs}
 use Rattle.exported.proofs.checked_in_one.Statement.{statement}
 use Rattle.exported.proofs.checked_in_one.Tie as tie
@@ -13,7 +14,13 @@ in-one-requires : tie.Need-in-one-requires
 in-one-requires c κs = search needs
 
 returns : tie.Need-returns
-returns c = cc
+returns c =
+    let says = c .in-one .ensures in
+    record {
+      number = says .number ∙ c .before .before .number .ensures;
+      length = says .length;
+      place = says .place ∙ c .before .place .ensures;
+    }
 
 pub checked-in-one-spec : {M : Type 1} → statement M
 checked-in-one-spec = tie.close (tie.spec number-requires place-requires in-one-requires returns)

@@ -1,6 +1,6 @@
--- `exported::in_one` meets its contract: the sum is the definition, and the greatest of each fit 64 bits together.
+-- `exported::in_one` meets its contract: the greatest of each fit 64 bits together, so each is taken out as it was put in.
 use borrow.Author.Needs.{needs}
-use Rattle.exported.specs.Calls.{inOne}
+use native.Mathlib.Omega.{arith}
 use Rattle.exported.proofs.in_one.Statement.{statement}
 use Rattle.exported.proofs.in_one.Tie as tie
 
@@ -17,8 +17,7 @@ add-result-2 : tie.Need-add-result-2
 add-result-2 c = search needs
 
 returns : tie.Need-returns
-unfolding inOne
-returns c = search needs
+returns c = record { number = omega arith; length = omega arith; place = omega arith }
 
 pub in-one-spec : {M : Type 1} → statement M
 in-one-spec = tie.close (tie.spec mul-result add-result mul-result-2 add-result-2 returns)

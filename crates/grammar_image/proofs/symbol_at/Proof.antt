@@ -1,11 +1,12 @@
 -- `grammar_image::symbol_at` meets its contract: each field is read at its byte.
 use mathlib.Core.Path.{ap, _∙_}
-use Prim.Native.Nat.{ℕ, _+_, _*_}
+use Prim.Native.Nat.{ℕ, _+_}
 use lib.ListN.{getD}
 use denote.Ref.{now}
 use borrow.Author.Needs.{needs}
 use Rattle.fields.specs.Fields.{fieldAt}
 use Rattle.grammar_image.specs.GrammarImage.{symbolAt}
+use Rattle.grammar_image.proofs.Entries.{at-entry}
 use Rattle.grammar_image.proofs.symbol_at.Statement.{statement}
 use Rattle.grammar_image.proofs.symbol_at.Tie as tie
 
@@ -48,11 +49,11 @@ returns c =
     let byte = c .before .before in
     let a = byte .before .before .before .args in
     let image = now (a .image) in
-    let productions = byte .before .field-at .ensures in
+    let entry = at-entry image (a .y) (byte .before .field-at .ensures) in
     record {
-      kind = byte .byte-at .ensures ∙ ap (λ (p : ℕ). getD image (16 + 6 * p + 4 * a .y) 0) productions;
-      relation = c .before .byte-at2 .ensures ∙ ap (λ (p : ℕ). getD image (16 + 6 * p + 4 * a .y + 1) 0) productions;
-      number = c .field-at2 .ensures ∙ ap (λ (p : ℕ). fieldAt image (16 + 6 * p + 4 * a .y + 2)) productions;
+      kind = byte .byte-at .ensures ∙ ap (λ (at : ℕ). getD image at 0) entry;
+      relation = c .before .byte-at2 .ensures ∙ ap (λ (at : ℕ). getD image (at + 1) 0) entry;
+      number = c .field-at2 .ensures ∙ ap (λ (at : ℕ). fieldAt image (at + 2)) entry;
     }
 
 pub symbol-at-spec : {M : Type 1} → statement M

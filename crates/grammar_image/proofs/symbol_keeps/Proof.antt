@@ -2,14 +2,14 @@
 use borrow.Author.Needs.{needs}
 use mathlib.Core.Bool.{true, false}
 use mathlib.Core.Path.{_≡_, ap, ap₂, _∙_}
-use mathlib.Core.List.{List}
-use Prim.Native.Nat.{ℕ, _+_, _*_}
+use Prim.Native.Nat.{ℕ, _+_}
 use lib.Dec.{eqb, leb, ltb}
 use lib.ListN.{getD}
 use denote.Ref.{now}
-use Rattle.grammar_image.specs.GrammarImage.{productionCount, entryByte, symbolAt, symbolFields}
+use Rattle.grammar_image.specs.GrammarImage.{entryByte, symbolAt, symbolFields}
 use Rattle.fields.specs.Fields.{fieldAt}
 use Rattle.fields.proofs.Searching.{tests, last-of-three}
+use Rattle.grammar_image.proofs.Entries.{at-entry}
 use Rattle.grammar_image.proofs.symbol_keeps.Statement.{statement}
 use Rattle.grammar_image.proofs.symbol_keeps.Tie as tie
 
@@ -51,10 +51,6 @@ add-field-at-2 c = search needs
 
 field-at-requires-2 : tie.Need-field-at-requires-2
 field-at-requires-2 c κs = search needs
-
--- the byte of an entry, as it was taken from the counts
-at-entry : (image : List ℕ) (y : ℕ) {p : ℕ} → p ≡ productionCount image → 16 + 6 * p + 4 * y ≡ entryByte image y
-at-entry image y = ap (λ (p : ℕ). 16 + 6 * p + 4 * y)
 
 returns : tie.Need-returns
 unfolding symbolFields symbolAt
