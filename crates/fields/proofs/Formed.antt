@@ -1,7 +1,7 @@
 -- Laws of well-formed fields: of parts and of records.
-use mathlib.Core.Path.{_≡_, refl}
+use mathlib.Core.Path.{_≡_, refl, ap, _∙_}
 use mathlib.Core.Bool.{Bool, true, false, _&&_}
-use mathlib.Core.List.{List, [], _∷_, _++_}
+use mathlib.Core.List.{List, [], _∷_, _++_, append-assoc, append-nil}
 use Prim.Native.Nat.{ℕ, zero, suc, _+_, _<_}
 use native.Mathlib.Nat.{add-zero, zero-add, add-suc, suc-add}
 use native.Mathlib.Omega.{arith}
@@ -38,3 +38,16 @@ from-formed fields k (suc n) (suc i) h l = rw (add-suc, ← suc-add) (from-forme
 
 pub each-formed : (fields : ℕ → List Field) (n i : ℕ) → WellFormed (each n fields) → i < n → WellFormed (fields i)
 each-formed fields n i h l = rw zero-add at (from-formed fields 0 n i h l)
+
+-- m records, then n more
+pub each-more : (fields : ℕ → List Field) (k m n : ℕ) → eachFrom k (m + n) fields ≡ eachFrom k m fields ++ eachFrom (k + m) n fields
+unfolding eachFrom
+each-more fields k zero n = rw (zero-add n, add-zero k)
+each-more fields k (suc m) n = rw (suc-add m n, each-more fields (suc k) m n, suc-add k m, add-suc k m, append-assoc)
+
+pub formed-more : (fields : ℕ → List Field) (k m n : ℕ) → WellFormed (eachFrom k m fields) → WellFormed (eachFrom (k + m) n fields) → WellFormed (eachFrom k (m + n) fields)
+formed-more fields k m n g h = rw (each-more fields k m n) (formed-append (eachFrom k m fields) (eachFrom (k + m) n fields) g h)
+
+pub formed-next : (fields : ℕ → List Field) (k m : ℕ) → WellFormed (eachFrom k m fields) → WellFormed (fields (k + m)) → WellFormed (eachFrom k (m + 1) fields)
+unfolding eachFrom
+formed-next fields k m g h = formed-more fields k m 1 g (rw (append-nil (fields (k + m))) h)

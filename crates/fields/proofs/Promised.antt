@@ -2,10 +2,13 @@
 -- outcome for each input.
 use mathlib.Core.Bool.{Bool, true, false, cond}
 use mathlib.Core.Path.{_≡_, refl, sym, ap, _∙_}
-use mathlib.Core.List.{List, [], _∷_}
-use Prim.Native.Nat.{ℕ}
-use Rattle.fields.specs.Fields.{Field, firstFault, WellFormed, FirstAt}
+use mathlib.Core.List.{List, [], _∷_, _++_}
+use Prim.Native.Nat.{ℕ, _+_, _-_, _≤_}
+use native.Mathlib.Nat.{zero-add}
+use native.Mathlib.Omega.{arith}
+use Rattle.fields.specs.Fields.{Field, each, eachFrom, firstFault, WellFormed, FirstAt}
 use Rattle.fields.specs.declared.Checked.the-variants.{Good, Fault}
+use Rattle.fields.proofs.Formed.{each-more}
 use Rattle.fields.proofs.Searching.{pass, fail, done, head-passed, then-good, fault≢good}
 
 -- A check answers good exactly where every field keeps its rule.
@@ -46,6 +49,15 @@ pub first-fault : (fs : List Field) (n : ℕ) → FirstAt fs n → Fault n ≡ f
 first-fault fs n h =
     then-good (h .before) (h .fault ∷ h .after) (well-formed-good (h .before) (h .kept)) (fail (h .fault) (h .after) (h .broken) (h .place))
     ∙ ap firstFault (sym (h .split))
+
+-- Records that keep their rules need no search.
+pub search-behind : (fields : ℕ → List Field) (m n : ℕ) → m ≤ n → WellFormed (each m fields) → firstFault (each n fields) ≡ firstFault (eachFrom m (n - m) fields)
+search-behind fields m n h formed =
+    let split : m + (n - m) ≡ n = omega arith in
+    ap (λ (l : ℕ). firstFault (each l fields)) (sym split)
+    ∙ ap firstFault (each-more fields 0 m (n - m))
+    ∙ ap (λ (k : ℕ). firstFault (each m fields ++ eachFrom k (n - m) fields)) (zero-add m)
+    ∙ sym (then-good (each m fields) (eachFrom m (n - m) fields) (well-formed-good (each m fields) formed) refl)
 
 -- Two outcomes are equal that are allowed by a contract which says what the result is.
 pub one-result {ℓ} : {A : Type ℓ} {a r s : A} → r ≡ a → s ≡ a → r ≡ s

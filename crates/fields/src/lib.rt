@@ -1,8 +1,8 @@
 // What the images of document 01 share: their fields, and what the check of an image answers.
-// An image is lent as a slice of its bytes. A byte past its end counts as 0.
+// An image is lent as a slice of its bytes. What is read lies within it: no reader tests its length.
 ghost use mathlib.Core.Path.{_≡_};
-ghost use Prim.Native.Nat.{_+_, _*_, _<_};
-ghost use lib.ListN.{getD};
+ghost use Prim.Native.Nat.{_+_, _*_, _<_, _≤_};
+ghost use lib.ListN.{length, getD};
 ghost use Rattle.fields.specs.Fields.{fieldAt};
 ghost use Rattle.fields.specs.Answers.{checkedNumber, checkedPlace};
 
@@ -45,9 +45,10 @@ fn wide(byte: u8) -> u16
 
 // The byte at `at`.
 pub fn byte_at(image: &[u8], at: usize) -> u8
+    requires { ⌜ at + 1 ≤ length (now image) ⌝ }
     ensures { λ r. ⌜ r ≡ getD (now (image .entry)) at 0 ⌝ }
 {
-    if at < image.len() { image[at] } else { 0 }
+    image[at]
 }
 
 // Two bytes as a field, low byte first.
@@ -59,14 +60,8 @@ pub fn pair(low: u8, high: u8) -> u16
 
 // The 16 bits at `at`, low byte first.
 pub fn field_at(image: &[u8], at: usize) -> u16
+    requires { ⌜ at + 2 ≤ length (now image) ⌝ }
     ensures { λ r. ⌜ r ≡ fieldAt (now (image .entry)) at ⌝ }
 {
-    let length = image.len();
-    if length >= 2 {
-        if at <= length - 2 {
-            let next = at + 1;
-            return pair(image[at], image[next]);
-        }
-    }
-    if at < length { wide(image[at]) } else { 0 }
+    pair(image[at], image[at + 1])
 }

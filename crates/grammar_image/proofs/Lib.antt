@@ -1,2 +1,4 @@
 mod Entries
+mod Over
 pub mod Promised
+pub mod Within

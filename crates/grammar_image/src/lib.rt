@@ -8,11 +8,12 @@ use rules::PRODUCTIONS;
 use rules::ROW;
 use rules::TERMINALS;
 ghost use mathlib.Core.Path.{_≡_};
-ghost use Prim.Native.Nat.{_<_};
+ghost use Prim.Native.Nat.{_+_, _*_, _<_, _≤_};
 ghost use mathlib.Core.List.{_++_};
-ghost use lib.ListN.{getD};
-ghost use Rattle.fields.specs.Fields.{fieldAt, firstFault, nowhere};
-ghost use Rattle.grammar_image.specs.GrammarImage.{Counted, ProductionIs, SymbolIs, startsAt};
+ghost use lib.ListN.{length, getD};
+ghost use Rattle.fields.specs.Fields.{fieldAt, each, eachFrom, WellFormed, firstFault, nowhere};
+ghost use Rattle.grammar_image.specs.GrammarImage.{productionCount, entryCount, entryByte, startsAt};
+ghost use Rattle.grammar_image.specs.GrammarImage.{Counted, ProductionIs, SymbolIs};
 ghost use Rattle.grammar_image.specs.GrammarImage.{countFields, offsetFields, productionFields};
 ghost use Rattle.grammar_image.specs.GrammarImage.{productionsFields};
 ghost use Rattle.grammar_image.specs.GrammarImage.{symbolFields, symbolsFields, grammarFields};
@@ -42,6 +43,7 @@ pub struct Symbol {
 
 // The counts of the header.
 pub fn counts_at(image: &[u8]) -> Counts
+    requires { ⌜ 16 ≤ length (now image) ⌝ }
     ensures { λ r. ⌜ Counted (now (image .entry)) r ⌝ }
 {
     Counts {
@@ -55,6 +57,7 @@ pub fn counts_at(image: &[u8]) -> Counts
 
 // The total length that the header says.
 pub fn total_length(image: &[u8]) -> u16
+    requires { ⌜ 16 ≤ length (now image) ⌝ }
     ensures { λ r. ⌜ r ≡ fieldAt (now (image .entry)) 14 ⌝ }
 {
     field_at(image, 14)
@@ -62,6 +65,7 @@ pub fn total_length(image: &[u8]) -> u16
 
 // Production p, its row by the number of its first symbol entry and a count.
 pub fn production_at(image: &[u8], p: u16) -> Production
+    requires { ⌜ 16 + 6 * p + 6 ≤ length (now image) ⌝ }
     ensures { λ r. ⌜ ProductionIs (now (image .entry)) p r ⌝ }
 {
     let at = 16 + 6 * (p as usize);
@@ -74,6 +78,7 @@ pub fn production_at(image: &[u8], p: u16) -> Production
 
 // The symbol of entry y. First entry and count of any production add up within 32 bits.
 pub fn symbol_at(image: &[u8], y: u32) -> Symbol
+    requires { ⌜ entryByte (now image) y + 4 ≤ length (now image) ⌝ }
     ensures { λ r. ⌜ SymbolIs (now (image .entry)) y r ⌝ }
 {
     let at = 16 + 6 * (field_at(image, 6) as usize) + 4 * (y as usize);
@@ -87,12 +92,9 @@ pub fn symbol_at(image: &[u8], y: u32) -> Symbol
 // The header up to its symbol entries.
 fn check_counts(image: &[u8], counts: Counts) -> Checked
     requires { ⌜ Counted (now image) counts ⌝ }
+    requires { ⌜ 16 ≤ length (now image) ⌝ }
     ensures { λ r. ⌜ r ≡ firstFault (countFields (now (image .entry))) ⌝ }
 {
-    let length = image.len();
-    if length < 16 {
-        return Checked::Fault(length as u32);
-    }
     if counts.terminals < 1 {
         return Checked::Fault(0);
     }
@@ -123,6 +125,7 @@ fn check_counts(image: &[u8], counts: Counts) -> Checked
 // The header from the offset of the productions on.
 fn check_offsets(image: &[u8], counts: Counts) -> Checked
     requires { ⌜ Counted (now image) counts ⌝ }
+    requires { ⌜ 16 ≤ length (now image) ⌝ }
     ensures { λ r. ⌜ r ≡ firstFault (offsetFields (now (image .entry))) ⌝ }
 {
     let symbols = 16 + 6 * (counts.productions as usize);
@@ -145,7 +148,7 @@ fn check_offsets(image: &[u8], counts: Counts) -> Checked
 // Whether field f of production p keeps its rule, where the one before ended at `starts`.
 fn production_keeps(image: &[u8], counts: Counts, p: usize, f: usize, starts: usize) -> bool
     requires { ⌜ Counted (now image) counts ⌝ }
-    requires { ⌜ (p < 65536) × (f < 3) ⌝ }
+    requires { ⌜ (16 + 6 * p + 6 ≤ length (now image)) × (f < 3) ⌝ }
     requires { ⌜ (starts ≡ startsAt (now image) p) × (starts < 65536) ⌝ }
     ensures { λ r. ⌜ r ≡ getD (productionFields (now (image .entry)) p) f nowhere .keeps ⌝ }
 {
@@ -160,6 +163,7 @@ fn production_keeps(image: &[u8], counts: Counts, p: usize, f: usize, starts: us
 // The productions' fields, then their last end, which is a fault of byte 8.
 fn check_productions(image: &[u8], counts: Counts) -> Checked
     requires { ⌜ Counted (now image) counts ⌝ }
+    requires { ⌜ 16 + 6 * productionCount (now image) ≤ length (now image) ⌝ }
     ensures { λ r. ⌜ r ≡ firstFault (productionsFields (now (image .entry))) ⌝ }
 {
     let productions = counts.productions as usize;
@@ -184,7 +188,7 @@ fn check_productions(image: &[u8], counts: Counts) -> Checked
 // Whether field f of symbol entry y keeps its rule.
 fn symbol_keeps(image: &[u8], counts: Counts, y: usize, f: usize) -> bool
     requires { ⌜ Counted (now image) counts ⌝ }
-    requires { ⌜ (y < 65536) × (f < 3) ⌝ }
+    requires { ⌜ (entryByte (now image) y + 4 ≤ length (now image)) × (f < 3) ⌝ }
     ensures { λ r. ⌜ r ≡ getD (symbolFields (now (image .entry)) y) f nowhere .keeps ⌝ }
 {
     let at = 16 + 6 * (counts.productions as usize) + 4 * y;
@@ -201,15 +205,69 @@ fn symbol_keeps(image: &[u8], counts: Counts, y: usize, f: usize) -> bool
     }
 }
 
-// The symbol entries' fields.
+// How far the fields of symbol entry y break their rules: 0 where each keeps its own. Kind and
+// relation are read as one field.
+fn entry_over(image: &[u8], counts: Counts, y: usize) -> u16
+    requires { ⌜ Counted (now image) counts ⌝ }
+    requires { ⌜ entryByte (now image) y + 4 ≤ length (now image) ⌝ }
+    ensures good { λ r. ⌜ (r ≡ 0 → WellFormed (symbolFields (now (image .entry)) y)) ⌝ }
+    ensures small { λ r. ⌜ r < 256 ⌝ }
+{
+    let at = 16 + 6 * (counts.productions as usize) + 4 * y;
+    let head = field_at(image, at);
+    let kind = head % 256;
+    let relation = head / 256;
+    let limit = if kind % 2 == 0 {
+        counts.terminals
+    } else {
+        counts.nonterminals
+    };
+    let beyond = if field_at(image, at + 2) < limit { 0 } else { 1 };
+    kind / 2 + relation / 4 + beyond
+}
+
+// The same of the sixteen symbol entries from y on, all together.
+fn sixteen_over(image: &[u8], counts: Counts, y: usize) -> u16
+    requires { ⌜ Counted (now image) counts ⌝ }
+    requires { ⌜ entryByte (now image) (y + 16) ≤ length (now image) ⌝ }
+    ensures { λ r. ⌜ (r ≡ 0 → WellFormed (eachFrom y 16 (symbolFields (now (image .entry))))) ⌝ }
+{
+    let mut over = 0;
+    for e in 0..16 {
+        over += entry_over(image, counts, y + e);
+    }
+    over
+}
+
+// So many symbol entries from the first on keep their rules. They are tested sixteen at a time.
+fn good_entries(image: &[u8], counts: Counts) -> usize
+    requires { ⌜ Counted (now image) counts ⌝ }
+    requires { ⌜ entryByte (now image) (entryCount (now image)) ≤ length (now image) ⌝ }
+    ensures good { λ r. ⌜ WellFormed (each r (symbolFields (now (image .entry)))) ⌝ }
+    ensures within { λ r. ⌜ r ≤ entryCount (now (image .entry)) ⌝ }
+{
+    let entries = counts.entries as usize;
+    let mut y = 0;
+    while entries - y >= 16 {
+        if sixteen_over(image, counts, y) != 0 {
+            return y;
+        }
+        y += 16;
+    }
+    y
+}
+
+// The symbol entries' fields: the search begins behind those that were found good.
 fn check_symbols(image: &[u8], counts: Counts) -> Checked
     requires { ⌜ Counted (now image) counts ⌝ }
+    requires { ⌜ entryByte (now image) (entryCount (now image)) ≤ length (now image) ⌝ }
     ensures { λ r. ⌜ r ≡ firstFault (symbolsFields (now (image .entry))) ⌝ }
 {
     let entries = counts.entries as usize;
     let symbols = 16 + 6 * (counts.productions as usize);
+    let good = good_entries(image, counts);
     let fault = 'search: loop {
-        for y in 0..entries {
+        for y in good..entries {
             for f in 0..3 {
                 if !symbol_keeps(image, counts, y, f) {
                     break 'search (symbols + 4 * y + f) as u32;
@@ -224,6 +282,7 @@ fn check_symbols(image: &[u8], counts: Counts) -> Checked
 // The records' fields: first the productions', then the symbols'.
 fn check_records(image: &[u8], counts: Counts) -> Checked
     requires { ⌜ Counted (now image) counts ⌝ }
+    requires { ⌜ entryByte (now image) (entryCount (now image)) ≤ length (now image) ⌝ }
     ensures { λ r. ⌜ r ≡ firstFault (productionsFields (now (image .entry)) ++ symbolsFields (now (image .entry))) ⌝ }
 {
     match check_productions(image, counts) {
@@ -235,6 +294,7 @@ fn check_records(image: &[u8], counts: Counts) -> Checked
 // The header's fields.
 fn check_header(image: &[u8], counts: Counts) -> Checked
     requires { ⌜ Counted (now image) counts ⌝ }
+    requires { ⌜ 16 ≤ length (now image) ⌝ }
     ensures { λ r. ⌜ r ≡ firstFault (countFields (now (image .entry)) ++ offsetFields (now (image .entry))) ⌝ }
 {
     match check_counts(image, counts) {
@@ -248,6 +308,10 @@ fn check_header(image: &[u8], counts: Counts) -> Checked
 pub fn check_grammar(image: &[u8]) -> Checked
     ensures { λ r. ⌜ r ≡ firstFault (grammarFields (now (image .entry))) ⌝ }
 {
+    let length = image.len();
+    if length < 16 {
+        return Checked::Fault(length as u32);
+    }
     let counts = counts_at(image);
     match check_header(image, counts) {
         Checked::Fault(at) => Checked::Fault(at),

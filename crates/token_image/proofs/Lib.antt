@@ -1,3 +1,4 @@
 pub mod Columns
 pub mod Lists
 pub mod Promised
+pub mod Within

@@ -4,8 +4,8 @@ use fields::field_at;
 use rules::COLUMN;
 use rules::TOKENS;
 ghost use mathlib.Core.Path.{_≡_};
-ghost use Prim.Native.Nat.{_<_};
-ghost use lib.ListN.{getD};
+ghost use Prim.Native.Nat.{_+_, _*_, _<_, _≤_};
+ghost use lib.ListN.{length, getD};
 ghost use Rattle.fields.specs.Fields.{fieldAt, firstFault, nowhere};
 ghost use Rattle.token_image.specs.TokenImage.{headerFields, recordFields, recordsFields, tokenFields};
 ghost use Rattle.token_image.specs.TokenImage.{tokenCount, TokenIs};
@@ -18,6 +18,7 @@ pub struct Token {
 
 // The number of tokens.
 pub fn token_count(image: &[u8]) -> u16
+    requires { ⌜ 6 ≤ length (now image) ⌝ }
     ensures { λ r. ⌜ r ≡ tokenCount (now (image .entry)) ⌝ }
 {
     field_at(image, 0)
@@ -25,6 +26,7 @@ pub fn token_count(image: &[u8]) -> u16
 
 // The total length that the header says.
 pub fn total_length(image: &[u8]) -> u16
+    requires { ⌜ 6 ≤ length (now image) ⌝ }
     ensures { λ r. ⌜ r ≡ fieldAt (now (image .entry)) 4 ⌝ }
 {
     field_at(image, 4)
@@ -32,6 +34,7 @@ pub fn total_length(image: &[u8]) -> u16
 
 // Token k.
 pub fn token_at(image: &[u8], k: u16) -> Token
+    requires { ⌜ 6 + 4 * k + 4 ≤ length (now image) ⌝ }
     ensures { λ r. ⌜ TokenIs (now (image .entry)) k r ⌝ }
 {
     let at = 6 + 4 * (k as usize);
@@ -68,7 +71,7 @@ fn check_header(image: &[u8]) -> Checked
 
 // Whether field f of token k keeps its rule.
 fn token_keeps(image: &[u8], terminals: u16, k: usize, f: usize) -> bool
-    requires { ⌜ k < 65536 ⌝ }
+    requires { ⌜ 6 + 4 * k + 4 ≤ length (now image) ⌝ }
     requires { ⌜ f < 2 ⌝ }
     ensures { λ r. ⌜ r ≡ getD (recordFields terminals (now (image .entry)) k) f nowhere .keeps ⌝ }
 {
@@ -81,6 +84,7 @@ fn token_keeps(image: &[u8], terminals: u16, k: usize, f: usize) -> bool
 
 // The tokens' fields.
 fn check_records(image: &[u8], terminals: u16) -> Checked
+    requires { ⌜ 6 + 4 * tokenCount (now image) ≤ length (now image) ⌝ }
     ensures { λ r. ⌜ r ≡ firstFault (recordsFields terminals (now (image .entry))) ⌝ }
 {
     let count = field_at(image, 0) as usize;

@@ -3,11 +3,14 @@ use fields::Checked;
 use fields::field_at;
 use rules::NODES;
 ghost use mathlib.Core.Path.{_≡_};
+ghost use Prim.Native.Nat.{_+_, _*_, _≤_};
+ghost use lib.ListN.{length};
 ghost use Rattle.fields.specs.Fields.{firstFault};
 ghost use Rattle.tree_image.specs.TreeImage.{headerFields, recordsFields, treeFields, nodeCount, nodeAt};
 
 // The number of nodes.
 pub fn node_count(image: &[u8]) -> u16
+    requires { ⌜ 6 ≤ length (now image) ⌝ }
     ensures { λ r. ⌜ r ≡ nodeCount (now (image .entry)) ⌝ }
 {
     field_at(image, 0)
@@ -15,6 +18,7 @@ pub fn node_count(image: &[u8]) -> u16
 
 // The production number of node n.
 pub fn node_at(image: &[u8], n: u16) -> u16
+    requires { ⌜ 6 + 2 * n + 2 ≤ length (now image) ⌝ }
     ensures { λ r. ⌜ r ≡ nodeAt (now (image .entry)) n ⌝ }
 {
     field_at(image, 6 + 2 * (n as usize))
@@ -50,6 +54,7 @@ fn check_header(image: &[u8]) -> Checked
 
 // The nodes, which are a field each.
 fn check_records(image: &[u8], productions: u16) -> Checked
+    requires { ⌜ 6 + 2 * nodeCount (now image) ≤ length (now image) ⌝ }
     ensures { λ r. ⌜ r ≡ firstFault (recordsFields productions (now (image .entry))) ⌝ }
 {
     let count = field_at(image, 0) as usize;

@@ -9,6 +9,7 @@ use denote.Ref.{now}
 use Rattle.fields.specs.Fields.{eachFrom, firstFault, nowhere}
 use Rattle.fields.specs.declared.Checked.the-variants.{Fault}
 use Rattle.grammar_image.specs.GrammarImage.{entryCount, productionCount, symbolFields, symbolsFields}
+use Rattle.fields.proofs.Promised.{search-behind}
 use Rattle.fields.proofs.Searching.{left, turn, turned, passed, failed, finished}
 use Rattle.grammar_image.proofs.check_symbols.Statement.{statement}
 use Rattle.grammar_image.proofs.check_symbols.Tie as tie
@@ -27,24 +28,24 @@ byte-of image symbols y (suc (suc zero)) e h = omega arith
 byte-of image symbols y (suc (suc (suc f))) e h = absurd (omega arith)
 
 abbrev Inv-loop2 : tie.InvT-loop2
-Inv-loop2 image counts entries symbols y f₀ f =
+Inv-loop2 image counts entries symbols good y f₀ f =
     (f ≤ 3) × (firstFault (symbolsFields image) ≡ firstFault (left (symbolFields image) entries y f))
 
 abbrev μ-loop2 : tie.MeasureT-loop2
-μ-loop2 image counts entries symbols y f₀ f = 3 - f
+μ-loop2 image counts entries symbols good y f₀ f = 3 - f
 
 abbrev Inv-loop : tie.InvT-loop
-Inv-loop image counts entries symbols y₀ y =
+Inv-loop image counts entries symbols good y₀ y =
     (y ≤ entries) × (firstFault (symbolsFields image) ≡ firstFault (eachFrom y (entries - y) (symbolFields image)))
 
 abbrev μ-loop : tie.MeasureT-loop
-μ-loop image counts entries symbols y₀ y = entries - y
+μ-loop image counts entries symbols good y₀ y = entries - y
 
 abbrev Inv-search : tie.InvT-search
-Inv-search image counts entries symbols = Unit {0}
+Inv-search image counts entries symbols good = Unit {0}
 
 abbrev μ-search : tie.MeasureT-search
-μ-search image counts entries symbols = 0
+μ-search image counts entries symbols good = 0
 
 cast-entries : tie.Need-cast-entries Inv-loop2 μ-loop2 Inv-loop μ-loop Inv-search μ-search
 cast-entries c = omega arith
@@ -58,21 +59,30 @@ mul-symbols c = omega arith
 add-symbols : tie.Need-add-symbols Inv-loop2 μ-loop2 Inv-loop μ-loop Inv-search μ-search
 add-symbols c = omega arith
 
+good-entries-requires : tie.Need-good-entries-requires Inv-loop2 μ-loop2 Inv-loop μ-loop Inv-search μ-search
+good-entries-requires c κs = search needs
+
 search-holds : tie.Need-search-holds Inv-loop2 μ-loop2 Inv-loop μ-loop Inv-search μ-search
 search-holds c = tt
 
 loop-holds : tie.Need-loop-holds Inv-loop2 μ-loop2 Inv-loop μ-loop Inv-search μ-search
 unfolding symbolsFields
 loop-holds c =
-    let start = c .before .before .before .before in
+    let called = c .before in
+    let start = called .before .before .before .before in
     let image = now (start .args .image) in
-    let entries : entryCount image ≡ start .args .counts .entries - 0 = omega arith in
-    (omega arith, ap (λ (n : ℕ). firstFault (eachFrom 0 n (symbolFields image))) entries)
+    let good = called .good-entries .result in
+    let entries : entryCount image ≡ start .args .counts .entries = omega arith in
+    (
+      omega (arith, called .good-entries .ensures .1),
+      search-behind (symbolFields image) good (entryCount image) (called .good-entries .ensures .1) (called .good-entries .ensures .0)
+      ∙ ap (λ (n : ℕ). firstFault (eachFrom good (n - good) (symbolFields image))) entries,
+    )
 
 loop2-holds : tie.Need-loop2-holds Inv-loop2 μ-loop2 Inv-loop μ-loop Inv-search μ-search
 loop2-holds c =
     let outer = c .before in
-    let start = outer .before .before .before .before .before in
+    let start = outer .before .before .before .before .before .before in
     let image = now (start .args .image) in
     let entries = start .args .counts .entries in
     (omega arith, turn (symbolFields image) entries 3 (three image) (outer .loop .y) (c .loop-test .taken) (outer .loop .inv .1))
@@ -103,7 +113,7 @@ loop2-again : tie.Need-loop2-again Inv-loop2 μ-loop2 Inv-loop μ-loop Inv-searc
 loop2-again c =
     let inner = c .before .before .before in
     let outer = inner .before .before in
-    let start = outer .before .before .before .before .before in
+    let start = outer .before .before .before .before .before .before in
     let image = now (start .args .image) in
     let entries = start .args .counts .entries in
     (omega arith, passed (symbolFields image) entries 3 (three image) (outer .loop .y) (inner .loop2 .f) _ (c .before .before .loop2-test .taken) (c .before .symbol-keeps .ensures) (c .if1 .left) (inner .loop2 .inv .1))
@@ -118,7 +128,7 @@ loop-again : tie.Need-loop-again Inv-loop2 μ-loop2 Inv-loop μ-loop Inv-search 
 loop-again c =
     let inner = c .before in
     let outer = inner .before .before in
-    let start = outer .before .before .before .before .before in
+    let start = outer .before .before .before .before .before .before in
     let image = now (start .args .image) in
     let entries = start .args .counts .entries in
     (omega arith, turned (symbolFields image) entries 3 (three image) (outer .loop .y) (inner .loop2 .f) (c .loop2-test .left) (inner .loop2 .inv .1))
@@ -126,7 +136,7 @@ loop-again c =
 returns : tie.Need-returns Inv-loop2 μ-loop2 Inv-loop μ-loop Inv-search μ-search
 returns c =
     let outer = c .before in
-    let start = outer .before .before .before .before .before in
+    let start = outer .before .before .before .before .before .before in
     let image = now (start .args .image) in
     let entries = start .args .counts .entries in
     sym (finished (symbolFields image) entries 3 (three image) (outer .loop .y) (c .loop-test .left) (outer .loop .inv .1))
@@ -135,7 +145,7 @@ returns-2 : tie.Need-returns-2 Inv-loop2 μ-loop2 Inv-loop μ-loop Inv-search μ
 returns-2 c =
     let inner = c .before .before .before in
     let outer = inner .before .before in
-    let start = outer .before .before .before .before .before in
+    let start = outer .before .before .before .before .before .before in
     let image = now (start .args .image) in
     let entries = start .args .counts .entries in
     ap Fault (byte-of image _ _ _ (omega arith) (c .before .before .loop2-test .taken))
@@ -155,6 +165,7 @@ check-symbols-spec =
     cast-symbols
     mul-symbols
     add-symbols
+    good-entries-requires
     search-holds
     loop-holds
     loop2-holds

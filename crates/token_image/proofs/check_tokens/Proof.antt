@@ -3,7 +3,9 @@ use borrow.Author.Needs.{needs}
 use mathlib.Core.Path.{sym, _∙_}
 use denote.Ref.{now}
 use Rattle.token_image.specs.TokenImage.{headerFields, recordsFields, tokenFields}
+use Rattle.fields.proofs.Promised.{good-well-formed}
 use Rattle.fields.proofs.Searching.{then-good, then-fault}
+use Rattle.token_image.proofs.Within.{tokens-within}
 use Rattle.token_image.proofs.check_tokens.Statement.{statement}
 use Rattle.token_image.proofs.check_tokens.Tie as tie
 
@@ -17,7 +19,10 @@ enum-told : tie.Need-enum-told
 enum-told c = search needs
 
 check-records-requires : tie.Need-check-records-requires
-check-records-requires c κs = search needs
+check-records-requires c κs =
+    let checked = c .before .before in
+    let image = now (checked .before .before .args .image) in
+    tokens-within image (good-well-formed (headerFields image) (sym (c .enum-told .given .1) ∙ checked .check-header .ensures))
 
 returns : tie.Need-returns
 unfolding tokenFields
