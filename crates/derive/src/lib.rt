@@ -9,8 +9,11 @@ use rules::DEPTH;
 use token_image::token_count;
 use tree_image::node_count;
 ghost use mathlib.Core.Path.{_≡_};
+ghost use Prim.Native.Nat.{_≤_};
+ghost use lib.ListN.{length};
 ghost use Rattle.rules.specs.Walk.{walkDone, used};
 ghost use Rattle.fields.specs.Images.{images};
+ghost use Rattle.images.specs.Formed.{Formed};
 ghost use Rattle.token_image.specs.TokenImage.{tokensOf};
 ghost use Rattle.tree_image.specs.TreeImage.{nodesOf};
 ghost use Rattle.derive.specs.Answers.{refusalAnswer, derivationAnswer};
@@ -76,6 +79,7 @@ impl Refusal {
 
 // What is left once the walk is done.
 fn remaining(tokens: &[u8], tree: &[u8], n: u16, k: u16) -> Derivation
+    requires { ⌜ (6 ≤ length (now tokens)) × (6 ≤ length (now tree)) ⌝ }
     ensures { λ r. ⌜ derivationAnswer r
         ≡ walkDone (nodesOf (now (tree .entry))) (tokensOf (now (tokens .entry))) (used n k) ⌝ }
 {
@@ -91,6 +95,7 @@ fn remaining(tokens: &[u8], tree: &[u8], n: u16, k: u16) -> Derivation
 // Whether the nodes of the tree image derive the whole token list from the start nonterminal, by a
 // walk in preorder: derived, or the first refusal among 5 to 11 with its place.
 pub fn derive(grammar: &[u8], tokens: &[u8], tree: &[u8]) -> Derivation
+    requires { ⌜ Formed (images (now grammar) (now tokens) (now tree)) ⌝ }
     ensures { λ r. ⌜ derivationAnswer r
         ≡ walkIn (images (now (grammar .entry)) (now (tokens .entry)) (now (tree .entry))) ⌝ }
 {

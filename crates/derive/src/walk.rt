@@ -1,18 +1,20 @@
 // The walk in preorder: a node function and a row function that call each other.
 // Where n nodes and k tokens are used, node n and token k are next.
 use crate::Refusal;
-use grammar_image::production_at;
 use grammar_image::symbol_at;
+use images::production_of;
 use token_image::token_at;
 use token_image::token_count;
-use tree_image::node_at;
 use tree_image::node_count;
 ghost use mathlib.Core.Path.{_≡_};
+ghost use Prim.Native.Nat.{_+_, _*_, _≤_};
+ghost use lib.ListN.{length};
 ghost use Rattle.rules.specs.Walk.{tokenDue};
 ghost use Rattle.fields.specs.Fields.{listFrom};
 ghost use Rattle.fields.specs.Images.{images};
-ghost use Rattle.grammar_image.specs.GrammarImage.{symbolAt};
-ghost use Rattle.token_image.specs.TokenImage.{tokensOf};
+ghost use Rattle.grammar_image.specs.GrammarImage.{entryCount, symbolAt};
+ghost use Rattle.token_image.specs.TokenImage.{tokenCount, tokensOf};
+ghost use Rattle.images.specs.Formed.{Formed};
 ghost use Rattle.derive.specs.Answers.{walkedAs};
 ghost use Rattle.derive.specs.Images.{nodeDueIn, rowDueIn};
 
@@ -26,6 +28,7 @@ pub enum Walked {
 
 // A token is due that carries the terminal.
 fn token(tokens: &[u8], terminal: u16, n: u16, k: u16) -> Walked
+    requires { ⌜ 6 + 4 * tokenCount (now tokens) ≤ length (now tokens) ⌝ }
     ensures { λ r. ⌜ walkedAs r ≡ tokenDue (tokensOf (now (tokens .entry))) terminal n k ⌝ }
 {
     let count = token_count(tokens);
@@ -49,6 +52,7 @@ pub fn node(
     n: u16,
     k: u16,
 ) -> Walked
+    requires { ⌜ Formed (images (now grammar) (now tokens) (now tree)) ⌝ }
     ensures { λ r. ⌜ walkedAs r
         ≡ nodeDueIn (images (now (grammar .entry)) (now (tokens .entry)) (now (tree .entry))) levels nonterminal n k ⌝ }
 {
@@ -56,12 +60,15 @@ pub fn node(
     if n >= count {
         return Walked::Refused(Refusal::NodesEnd(count));
     }
-    let production = production_at(grammar, node_at(tree, n));
+    let production = production_of(grammar, tree, n);
     if production.left != nonterminal {
         return Walked::Refused(Refusal::WrongNode(n));
     }
     if levels == 0 {
         return Walked::Refused(Refusal::TooDeep(n));
+    }
+    if production.count == 0 {
+        return Walked::Used(n + 1, k);
     }
     row(
         grammar,
@@ -86,6 +93,8 @@ fn row(
     n: u16,
     k: u16,
 ) -> Walked
+    requires formed { ⌜ Formed (images (now grammar) (now tokens) (now tree)) ⌝ }
+    requires row { ⌜ first + count ≤ entryCount (now grammar) ⌝ }
     ensures { λ r. ⌜ walkedAs r
         ≡ rowDueIn (images (now (grammar .entry)) (now (tokens .entry)) (now (tree .entry))) levels
         (listFrom first count (symbolAt (now (grammar .entry)))) n k ⌝ }

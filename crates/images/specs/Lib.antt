@@ -1,0 +1,2 @@
+-- What is asked of images that were tested.
+pub mod Formed
