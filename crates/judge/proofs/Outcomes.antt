@@ -15,6 +15,7 @@ use Rattle.rules.specs.Choice.{flat}
 use Rattle.rules.specs.Stored.{unbounded}
 use Rattle.rules.specs.Interval.{In, setOf, setsOf, leastChoice, highestEmpty}
 use Rattle.rules.specs.Verdict.{refused}
+use Rattle.rules.specs.declared.relation.Set.{Set}
 use Rattle.rules.proofs.Least.{least-small}
 use Rattle.rules.proofs.Shapes.{low-near, length-sets}
 use Rattle.rules.proofs.Verdicts.{verdict-empty, verdict-accepted}
@@ -26,8 +27,8 @@ use Rattle.tree_image.proofs.Lists.{length-nodes}
 use Rattle.layout.specs.Standing.{TreeIn, TreeListed, SomeTree, SomeTreeListed}
 use Rattle.layout.specs.Written.{writtenAt}
 use Rattle.layout.proofs.HighestEmpty.{highest-append}
-use Rattle.set_pass.specs.Passes.{NodePassed}
-use Rattle.set_pass.specs.declared.Passed.{Passed}
+use Rattle.images.specs.Formed.{Formed}
+use Rattle.set_pass.specs.Passes.{RootPassed}
 use Rattle.indentation_pass.specs.Passes.{AllUpTo, NodeGiven}
 use Rattle.indentation_pass.proofs.LeastNumbers.{up-to}
 use Rattle.judge.specs.Judged.{Lists, entriesOf, tests, firstRefusal, Fitting, DerivesIn, lists, written, Judged}
@@ -75,6 +76,12 @@ module _ (s : Images) (old : Lists) where
     within : DerivesIn s
     within = all-passed s (entriesOf old) passed .1
 
+    pub formed : Formed s
+    formed = record {
+      nodesFormed = record { grammarFormed = fitting .grammarFormed; treeFormed = fitting .treeFormed };
+      tokensFormed = fitting .tokensFormed;
+    }
+
     -- there is room for both lists
     pub room-for-sets : 2 * nodeCount tree ≤ length oldSets
     room-for-sets = fitting .setsRoom
@@ -106,12 +113,12 @@ module _ (s : Images) (old : Lists) where
     columns = columns-kept (terminalCount grammar) tokenImage (fitting .tokensFormed)
 
     -- the set pass has gone over it
-    module _ {newSets : List ℕ} {root : Passed} (sets-laid : (T : Tree) → TreeIn s 0 0 T → NodePassed grammar T 0 0 oldSets newSets root) where
+    module _ {newSets : List ℕ} {root : Set} (sets-laid : (T : Tree) → TreeIn s 0 0 T → RootPassed grammar T oldSets newSets root) where
       sets-written : newSets ≡ written (setsOf (productionAt grammar) unbounded T) oldSets
       sets-written = sets-laid T stands .sets ∙ written-head _ oldSets
 
       -- 12
-      pub empty-judged : {n count : ℕ} → root .set .high < root .set .low → count ≡ nodeCount tree → n ≡ highestEmpty newSets count →
+      pub empty-judged : {n count : ℕ} → root .high < root .low → count ≡ nodeCount tree → n ≡ highestEmpty newSets count →
           Judged s old (answer 12 n) (lists newSets oldIndentations)
       empty-judged crossed counted found =
           let sets = setsOf (productionAt grammar) unbounded T in
@@ -125,7 +132,7 @@ module _ (s : Images) (old : Lists) where
             indentationsAfter = refl;
           })
 
-      module _ (some : root .set .low ≤ root .set .high) where
+      module _ (some : root .low ≤ root .high) where
         abbrev low : ℕ
         low = setOf (productionAt grammar) unbounded T .low
 
@@ -144,10 +151,10 @@ module _ (s : Images) (old : Lists) where
             omega (arith, within .deep, least-small (productionAt grammar) unbounded maxColumn (omega arith) T (startNonterminal grammar) low 0 (within .derives .right) read low-in (omega (arith, near)) n))
 
         -- 0
-        pub accepted-judged : {newIndentations : List ℕ} {next : ℕ} → ((ts : List Token) (k : ℕ) (T : Tree) → TreeListed grammar tree ts 0 k T → NodeGiven grammar T 0 (root .set .low) newSets oldIndentations newIndentations next) →
+        pub accepted-judged : {newIndentations : List ℕ} {next : ℕ} → ((ts : List Token) (k : ℕ) (T : Tree) → TreeListed grammar tree ts 0 k T → NodeGiven grammar T 0 (root .low) newSets oldIndentations newIndentations next) →
             Judged s old (answer 0 0) (lists newSets newIndentations)
         accepted-judged {newIndentations} given =
-            let lowest : root .set .low ≡ setOf (productionAt grammar) unbounded T .low = rw (sets-laid T stands .set) in
+            let lowest : root .low ≡ setOf (productionAt grammar) unbounded T .low = rw (sets-laid T stands .set) in
             let numbers = (rw lowest at given (tokensOf tokenImage) 0 T stands) .given _ sets-written numbers-fit in
             record {
               sets = setsOf (productionAt grammar) unbounded T;

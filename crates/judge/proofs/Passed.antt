@@ -19,10 +19,12 @@ use Rattle.token_image.specs.TokenImage.{tokensOf, tokenFields}
 use Rattle.tree_image.specs.TreeImage.{nodeCount, nodesOf, treeFields}
 use Rattle.fields.proofs.Promised.{good-well-formed, well-formed-good}
 use Rattle.derive.specs.Images.{walkIn}
+use Rattle.images.specs.Formed.{Formed}
+use Rattle.judge.specs.Parts.{imageTests}
 use Rattle.judge.specs.Judged.{Entries, checked, room, tests, firstRefusal, Fitting, DerivesIn}
 
 -- where no test refuses, the first does not and no later one does
-first-passed : (a : Answer) (later : List Answer) → firstRefusal (a ∷ later) .number ≡ 0 → (a .number ≡ 0) × (firstRefusal later .number ≡ 0)
+pub first-passed : (a : Answer) (later : List Answer) → firstRefusal (a ∷ later) .number ≡ 0 → (a .number ≡ 0) × (firstRefusal later .number ≡ 0)
 unfolding firstRefusal
 first-passed a later e = by (eqb (a .number) 0) refl e
   where
@@ -68,6 +70,22 @@ room-there needed there e = by (ltb there needed) refl e
     by : (b : Bool) → ltb there needed ≡ b → cond b (answer 4 needed) (answer 0 0) .number ≡ 0 → needed ≤ there
     by true t e = absurd (omega arith)
     by false t e = ltb-false _ _ t
+
+-- images that pass their tests are well formed
+pub images-formed : (s : Images) → firstRefusal (imageTests s) .number ≡ 0 → Formed s
+unfolding imageTests
+images-formed s e =
+    let one = first-passed (checked 1 (firstFault (grammarFields (s .grammar)))) _ e in
+    let two = first-passed (checked 2 (firstFault (tokenFields (terminalCount (s .grammar)) (s .tokens)))) _ (one .1) in
+    let three = first-passed (checked 3 (firstFault (treeFields (productionCount (s .grammar)) (s .tree)))) _ (two .1) in
+    record {
+      nodesFormed =
+          record {
+            grammarFormed = good-well-formed _ (checked-good 1 _ (λ z. omega arith) (one .0));
+            treeFormed = good-well-formed _ (checked-good 3 _ (λ z. omega arith) (three .0));
+          };
+      tokensFormed = good-well-formed _ (checked-good 2 _ (λ z. omega arith) (two .0));
+    }
 
 module _ (s : Images) (lent : Entries) where
   abbrev grammar : List ℕ

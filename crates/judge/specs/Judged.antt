@@ -67,6 +67,14 @@ unfoldable pub firstRefusal : List Answer → Answer
 firstRefusal [] = answer 0 0
 firstRefusal (a ∷ later) = cond (eqb (a .number) 0) (firstRefusal later) a
 
+-- lists with room for every node
+abbrev pub enough : Images → Entries
+enough s = entries (2 * nodeCount (s .tree)) (nodeCount (s .tree))
+
+-- what the check of the derivation alone gives: the first test that refuses where there is room, 1 to 3 and 5 to 11
+abbrev pub derivation : Images → Answer
+derivation s = firstRefusal (tests s (enough s))
+
 -- "With well-formed images, room": what the tests 1 to 4 ask
 pub record Fitting (s : Images) (lent : Entries) : Type 0 where
   pub grammarFormed : WellFormed (grammarFields (s .grammar))

@@ -1,3 +1,4 @@
 -- What the check promises, and the starred trial sheets.
 pub mod Judged
+pub mod Parts
 pub mod Sheets

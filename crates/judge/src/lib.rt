@@ -11,7 +11,9 @@ use tree_image::check_tree;
 use tree_image::node_count;
 ghost use mathlib.Core.Path.{_≡_};
 ghost use Rattle.fields.specs.Images.{images};
-ghost use Rattle.judge.specs.Judged.{Judged, lists, entries, given, tests, firstRefusal};
+ghost use Rattle.images.specs.Formed.{Formed};
+ghost use Rattle.judge.specs.Judged.{Judged, lists, entries, given, tests, firstRefusal, derivation};
+ghost use Rattle.judge.specs.Parts.{imageTests, roomTests, walkTests};
 
 // What the check answers: document 01's number and place.
 pub struct Answer {
@@ -19,11 +21,10 @@ pub struct Answer {
     pub place: u32,
 }
 
-// The first refusal among 1 to 11, for lists of so many entries; number 0 where there is none.
-fn refusal(grammar: &[u8], tokens: &[u8], tree: &[u8], sets: usize, indentations: usize) -> Answer
+// The first refusal among 1 to 3; number 0 where there is none.
+fn image_refusal(grammar: &[u8], tokens: &[u8], tree: &[u8]) -> Answer
     ensures { λ r. ⌜ given r
-        ≡ firstRefusal (tests (images (now (grammar .entry)) (now (tokens .entry)) (now (tree .entry)))
-        (entries sets indentations)) ⌝ }
+        ≡ firstRefusal (imageTests (images (now (grammar .entry)) (now (tokens .entry)) (now (tree .entry)))) ⌝ }
 {
     let checked = check_grammar(grammar);
     if let Checked::Fault(byte) = checked {
@@ -47,7 +48,17 @@ fn refusal(grammar: &[u8], tokens: &[u8], tree: &[u8], sets: usize, indentations
             place: byte,
         };
     }
-    let nodes = node_count(tree) as usize;
+    Answer {
+        number: 0,
+        place: 0,
+    }
+}
+
+// Refusal 4 for a tree of so many nodes and lists of so many entries; number 0 where there is room.
+fn room_refusal(nodes: u16, sets: usize, indentations: usize) -> Answer
+    ensures { λ r. ⌜ given r ≡ firstRefusal (roomTests nodes (entries sets indentations)) ⌝ }
+{
+    let nodes = nodes as usize;
     if sets < 2 * nodes {
         return Answer {
             number: 4,
@@ -60,17 +71,58 @@ fn refusal(grammar: &[u8], tokens: &[u8], tree: &[u8], sets: usize, indentations
             place: nodes as u32,
         };
     }
-    let derivation = derive(grammar, tokens, tree);
-    if let Derivation::Refused(refused) = derivation {
-        return Answer {
-            number: refused.number(),
-            place: refused.place() as u32,
-        };
-    }
     Answer {
         number: 0,
         place: 0,
     }
+}
+
+// The first refusal among 5 to 11; number 0 where the nodes derive the tokens.
+fn walk_refusal(grammar: &[u8], tokens: &[u8], tree: &[u8]) -> Answer
+    requires { ⌜ Formed (images (now grammar) (now tokens) (now tree)) ⌝ }
+    ensures { λ r. ⌜ given r
+        ≡ firstRefusal (walkTests (images (now (grammar .entry)) (now (tokens .entry)) (now (tree .entry)))) ⌝ }
+{
+    match derive(grammar, tokens, tree) {
+        Derivation::Refused(refused) => Answer {
+            number: refused.number(),
+            place: refused.place() as u32,
+        },
+        Derivation::Derived => Answer {
+            number: 0,
+            place: 0,
+        },
+    }
+}
+
+// The first refusal among 1 to 11, for lists of so many entries; number 0 where there is none.
+fn refusal(grammar: &[u8], tokens: &[u8], tree: &[u8], sets: usize, indentations: usize) -> Answer
+    ensures { λ r. ⌜ given r
+        ≡ firstRefusal (tests (images (now (grammar .entry)) (now (tokens .entry)) (now (tree .entry)))
+        (entries sets indentations)) ⌝ }
+{
+    let first = image_refusal(grammar, tokens, tree);
+    if first.number != 0 {
+        return first;
+    }
+    let second = room_refusal(node_count(tree), sets, indentations);
+    if second.number != 0 {
+        return second;
+    }
+    walk_refusal(grammar, tokens, tree)
+}
+
+// Whether the nodes of the tree image derive the tokens, whatever their columns: the refusals 1 to 3
+// and 5 to 11 of the check, with their places, or number 0. No list is lent.
+pub fn check_derivation(grammar: &[u8], tokens: &[u8], tree: &[u8]) -> Answer
+    ensures { λ r. ⌜ given r
+        ≡ derivation (images (now (grammar .entry)) (now (tokens .entry)) (now (tree .entry))) ⌝ }
+{
+    let first = image_refusal(grammar, tokens, tree);
+    if first.number != 0 {
+        return first;
+    }
+    walk_refusal(grammar, tokens, tree)
 }
 
 // Whether the nodes of the tree image are a right tree over the tokens, and whether indentations can
@@ -94,15 +146,15 @@ pub fn check(
     if first.number != 0 {
         return first;
     }
-    let root = set_pass::node(grammar, tokens, tree, sets, 0, 0);
-    if root.set.high < root.set.low {
+    let root = set_pass::root(grammar, tokens, tree, sets);
+    if root.high < root.low {
         let node = highest_empty(sets, node_count(tree));
         return Answer {
             number: 12,
             place: node as u32,
         };
     }
-    indentation_pass::node(grammar, tree, sets, indentations, 0, root.set.low);
+    indentation_pass::node(grammar, tree, sets, indentations, 0, root.low);
     Answer {
         number: 0,
         place: 0,
