@@ -13,7 +13,7 @@ use Rattle.rules.specs.Interval.{setOf, setsOf, rowSets, least, leastChoice, le
 use Rattle.rules.specs.declared.relation.Set.{Set}
 use Rattle.rules.proofs.Lists.{front-met}
 use Rattle.rules.proofs.Shapes.{length-sets}
-use Rattle.grammar_image.specs.GrammarImage.{symbolAt, productionAt, ProductionIs, SymbolIs}
+use Rattle.grammar_image.specs.GrammarImage.{leftOf, firstOf, countOf, symbolAt, productionAt, ProductionIs, SymbolIs}
 use Rattle.grammar_image.specs.declared.Production.{Production as ProductionRead}
 use Rattle.grammar_image.specs.declared.Symbol.{Symbol as SymbolRead}
 use Rattle.tree_image.specs.TreeImage.{nodeCount, nodeAt, nodesOf}
@@ -41,7 +41,7 @@ module _ (grammar tree : List ℕ) where
   ChildIn = ChildFirst (productionAt grammar) (nodesOf tree)
 
   -- what a pass gives, whichever tree or row stands from node n on
-  abbrev NodeDone : ℕ → ℕ → List ℕ → List ℕ → List ℕ → ℕ → Type 0
+  abbrev pub NodeDone : ℕ → ℕ → List ℕ → List ℕ → List ℕ → ℕ → Type 0
   NodeDone n i sets old new next = (ts : List Token) (k : ℕ) (T : Tree) → TreeListed grammar tree ts n k T → NodeGiven grammar T n i sets old new next
 
   abbrev pub RowDone : List Symbol → ℕ → ℕ → List ℕ → List ℕ → List ℕ → ℕ → Type 0
@@ -51,10 +51,10 @@ module _ (grammar tree : List ℕ) where
   pub node-listed : {n : ℕ} → SomeTreeListed grammar tree n → n < nodeCount tree
   node-listed {n} s = omega (arith, length-nodes tree, node-within _ _ _ n (s .k) (s .there) (s .stands))
 
-  -- node n has production p, which the reader gives as r
-  module _ (n : ℕ) {p : ℕ} {r : ProductionRead} (here : p ≡ nodeAt tree n) (read : ProductionIs grammar p r) where
+  -- the reader gives the production of node n as r
+  module _ (n : ℕ) {r : ProductionRead} (read : ProductionIs grammar (nodeAt tree n) r) where
     behind : {ts : List Token} {k : ℕ} (T : Tree) → OpenedIn ts n k T → SomeRowListed grammar tree (rowOf r) (n + 1)
-    behind {ts} {k} T (opened R h at) = record { ts = ts; k = k; there = R; stands = rw (← row-symbols grammar tree n h here read refl refl) at }
+    behind {ts} {k} T (opened R h at) = record { ts = ts; k = k; there = R; stands = rw (← row-symbols grammar tree n h refl read refl refl) at }
 
     -- its row stands behind it
     pub row-behind : SomeTreeListed grammar tree n → SomeRowListed grammar tree (rowOf r) (n + 1)
@@ -64,7 +64,7 @@ module _ (grammar tree : List ℕ) where
       opened-given : {ts : List Token} {k : ℕ} (T : Tree) → OpenedIn ts n k T → NodeGiven grammar T n i sets old new next
       unfolding nodes setsOf leastChoice flat AllUpTo
       opened-given {ts} {k} T (opened R h at) =
-          let same = row-symbols grammar tree n h here read refl refl in
+          let same = row-symbols grammar tree n h refl read refl refl in
           let below = rw (← same) at (rest ts k R (rw (← same) at)) in
           let inside : n < length old = omega (arith, length-nodes tree) in
           let twice : 2 * n + 2 ≡ 2 * (n + 1) = omega arith in
@@ -84,6 +84,12 @@ module _ (grammar tree : List ℕ) where
   row-end-given {y} {to} {n} {old = old} none ts k R at =
       let over = row-none (symbolAt grammar) y to none in
       rw (over, row-ended _ _ _ n k R (rw over at at)) (record { node = omega arith; given = λ after stand all. sym (written-none n old) })
+
+  -- the row of node n is empty: its number alone is written
+  pub empty-given : (n : ℕ) {i : ℕ} {sets old : List ℕ} → countOf grammar (nodeAt tree n) ≡ 0 → nodeCount tree ≤ length old → NodeDone n i sets old (set old n i) (n + 1)
+  empty-given n none room =
+      let p = nodeAt tree n in
+      node-given n {r = record { left = leftOf grammar p; first = firstOf grammar p; count = countOf grammar p }} (record { left = refl; first = refl; count = refl }) room (row-end-given (omega (arith, none)))
 
   -- symbol y, which the reader gives as s, comes first
   module _ (y to n : ℕ) {s : SymbolRead} (more : y < to) (symbol : SymbolIs grammar y s) where
