@@ -54,16 +54,16 @@ module _ (grammar tree : List ℕ) (A n : ℕ) where
     no-node zero e h = met-none _ e h
     no-node (suc levels) e h = met-none _ e h
 
-    -- node n has production p, which the reader gives as r
-    module _ {p : ℕ} {r : ProductionRead} (node : p ≡ nodeAt tree n) (read : ProductionIs grammar p r) where
+    -- node n has a production, which the reader gives as r
+    module _ {r : ProductionRead} (read : ProductionIs grammar (nodeAt tree n) r) where
       pub other-left : (levels : ℕ) {place : ℕ} → place ≡ n → n < nodeCount tree → (r .left ≡ A → ⊥) → refused (answer 5 place) ≡ nodeDue (productionAt grammar) (nodesOf tree) ts levels A n k
       unfolding nodeDue
-      other-left zero at h other = rw at (met-other _ h (λ e. other (cc)))
-      other-left (suc levels) at h other = rw at (met-other _ h (λ e. other (cc)))
+      other-left zero at h other = rw at (met-other _ h (λ e. other (read .left ∙ e)))
+      other-left (suc levels) at h other = rw at (met-other _ h (λ e. other (read .left ∙ e)))
 
       pub too-deep : (levels : ℕ) → levels ≡ 0 → n < nodeCount tree → r .left ≡ A → refused (answer 9 n) ≡ nodeDue (productionAt grammar) (nodesOf tree) ts levels A n k
       unfolding nodeDue
-      too-deep zero e h same = met _ h (cc)
+      too-deep zero e h same = met _ h (sym (read .left) ∙ same)
       too-deep (suc levels) e h same = absurd (omega arith)
 
       pub row-walked : (levels : ℕ) {w : Walked} → (levels ≡ 0 → ⊥) → n < nodeCount tree → r .left ≡ A →
@@ -73,7 +73,12 @@ module _ (grammar tree : List ℕ) (A n : ℕ) where
       row-walked zero some h same e = absurd (some refl)
       row-walked (suc levels) some h same e =
           let one-less : suc levels - 1 ≡ levels = omega arith in
-          (rw (one-less, add-one, read .first, read .count, node, ← node-of tree n h) at e) ∙ met _ h (cc)
+          (rw (one-less, add-one, read .first, read .count, ← node-of tree n h) at e) ∙ met _ h (sym (read .left) ∙ same)
+
+      -- its row is empty
+      pub row-empty : (levels : ℕ) → (levels ≡ 0 → ⊥) → n < nodeCount tree → r .left ≡ A → r .count ≡ 0 → used (n + 1) k ≡ nodeDue (productionAt grammar) (nodesOf tree) ts levels A n k
+      unfolding rowDue listFrom
+      row-empty levels some h same none = row-walked levels some h same (rw none)
 
 -- a symbol is due, which the reader gives as r
 module _ (ts : List Token) (below : ℕ → ℕ → ℕ → Walked) {image : List ℕ} {y : ℕ} {r : SymbolRead} (read : SymbolIs image y r) (n k : ℕ) {w : Walked} where

@@ -1,12 +1,18 @@
 -- `derive::derive` meets its contract: the walk begins at the root, with the start nonterminal due and all levels left, and what remains is told after it.
 use borrow.Author.Needs.{needs}
 use native.Mathlib.Omega.{arith}
+use denote.Ref.{now}
+use Rattle.grammar_image.proofs.Within.{header-within as grammar-header}
+use Rattle.token_image.proofs.Within.{header-within as tokens-header}
+use Rattle.tree_image.proofs.Within.{header-within as tree-header}
 use Rattle.derive.proofs.derive.Statement.{statement}
 use Rattle.derive.proofs.derive.Tie as tie
 use Rattle.derive.proofs.Walking.{walk-refused, walk-done}
 
 counts-at-requires : tie.Need-counts-at-requires
-counts-at-requires c κs = search needs
+counts-at-requires c κs =
+    let start = c .before .before .before in
+    grammar-header (now (start .args .grammar)) (start .pre .nodesFormed .grammarFormed)
 
 node-requires : tie.Need-node-requires
 node-requires c κs = search needs
@@ -18,7 +24,9 @@ enum-known-n : tie.Need-enum-known-n
 enum-known-n c = search needs
 
 remaining-requires : tie.Need-remaining-requires
-remaining-requires c κs = search needs
+remaining-requires c κs =
+    let start = c .before .before .before .before .before .before .before .before in
+    (tokens-header _ (now (start .args .tokens)) (start .pre .tokensFormed), tree-header _ (now (start .args .tree)) (start .pre .nodesFormed .treeFormed))
 
 returns : tie.Need-returns
 returns c =

@@ -12,7 +12,11 @@ use Rattle.grammar_image.specs.GrammarImage.{symbolAt}
 use Rattle.token_image.specs.TokenImage.{tokensOf}
 use Rattle.derive.specs.Answers.{walkedAs}
 use Rattle.derive.specs.Images.{nodeDueIn, rowDueIn}
-use Rattle.derive.proofs.Walking.{no-node, other-left, too-deep, row-walked, row-refused, row-goes-on, row-used, row-begins, terminal-due, nonterminal-due}
+use Rattle.grammar_image.proofs.Within.{entry-within}
+use Rattle.tree_image.proofs.Within.{header-within}
+use Rattle.images.proofs.Within.{row-ends}
+use Rattle.derive.proofs.Lying.{tokens-end}
+use Rattle.derive.proofs.Walking.{no-node, other-left, too-deep, row-empty, row-walked, row-refused, row-goes-on, row-used, row-begins, terminal-due, nonterminal-due}
 use denote.Ref.{now}
 use borrow.Fn.Kinds.{In}
 use borrow.Fn.PlainCycle.{Measures, is, falls, and}
@@ -23,10 +27,9 @@ use Rattle.derive.proofs.walk.row.Reads as row
 use Rattle.derive.proofs.walk.row.Kinds as row-kinds
 use Rattle.derive.proofs.walk.+node+row.Lts-row as row-lts
 use Rattle.derive.proofs.walk.token.Reads as token-reads
-use Rattle.grammar_image.proofs.production_at.Reads as production-at-reads
 use Rattle.grammar_image.proofs.symbol_at.Reads as symbol-at-reads
-use Rattle.tree_image.proofs.node_at.Reads as node-at-reads
 use Rattle.tree_image.proofs.node_count.Reads as node-count-reads
+use Rattle.images.proofs.production_of.Reads as production-of-reads
 use Rattle.derive.proofs.walk.+node+row.{statement}
 use Rattle.derive.proofs.walk.+node+row.Tie.{close}
 
@@ -62,32 +65,41 @@ row-μ-loop grammar tokens tree levels first count n k start end node₀ token�
 module _ (t : ℕ) where
   -- what the calls in each ask and ensure
   abbrev node-claims : node-lts.Claims
-  node-claims = (node-count-reads.Asked, node-count-reads.Learnt, node-at-reads.Asked, node-at-reads.Learnt, production-at-reads.Asked, production-at-reads.Learnt, row-below t, row.Post)
+  node-claims = (node-count-reads.Asked, node-count-reads.Learnt, production-of-reads.Asked, production-of-reads.Learnt, row-below t, row.Post)
 
   abbrev row-claims : row-lts.Claims
   row-claims = (symbol-at-reads.Asked, symbol-at-reads.Learnt, token-reads.Asked, token-reads.Learnt, node-below t, node.Post)
 
   node-node-count-requires : node-lts.Need-node-count-requires node-claims (node-at t) node.Post
-  node-node-count-requires c κs = search needs
+  node-node-count-requires c κs =
+      let start = c .before .before .before in
+      header-within _ (now (start .args .tree)) (start .pre .1 .nodesFormed .treeFormed)
 
   node-returns : node-lts.Need-returns node-claims (node-at t) node.Post
   node-returns c = no-node _ _ _ _ _ _ _ (omega arith) (omega arith)
 
-  node-node-at-requires : node-lts.Need-node-at-requires node-claims (node-at t) node.Post
-  node-node-at-requires c κs = search needs
-
-  node-production-at-requires : node-lts.Need-production-at-requires node-claims (node-at t) node.Post
-  node-production-at-requires c κs = search needs
+  node-production-of-requires : node-lts.Need-production-of-requires node-claims (node-at t) node.Post
+  node-production-of-requires c κs =
+      let start = c .before .before .before .before .before in
+      (start .pre .1 .nodesFormed, omega arith)
 
   node-returns-2 : node-lts.Need-returns-2 node-claims (node-at t) node.Post
   node-returns-2 c =
       let at = c .before .before in
-      other-left _ _ _ _ _ _ (at .before .node-at .ensures) (at .production-at .ensures) _ (omega arith) (omega arith) (λ e. omega arith)
+      other-left _ _ _ _ _ _ (at .production-of .ensures) _ (omega arith) (omega arith) (λ e. omega arith)
 
   node-returns-3 : node-lts.Need-returns-3 node-claims (node-at t) node.Post
   node-returns-3 c =
       let at = c .before .before .before in
-      too-deep _ _ _ _ _ _ (at .before .node-at .ensures) (at .production-at .ensures) _ (omega arith) (omega arith) (omega arith)
+      too-deep _ _ _ _ _ _ (at .production-of .ensures) _ (omega arith) (omega arith) (omega arith)
+
+  node-add-t14 : node-lts.Need-add-t14 node-claims (node-at t) node.Post
+  node-add-t14 c = search needs
+
+  node-returns-4 : node-lts.Need-returns-4 node-claims (node-at t) node.Post
+  node-returns-4 c =
+      let at = c .before .before .before .before .before in
+      row-empty _ _ _ _ _ _ (at .production-of .ensures) _ (c .before .before .if3 .left) (omega arith) (omega arith) (omega arith)
 
   node-sub-row : node-lts.Need-sub-row node-claims (node-at t) node.Post
   node-sub-row c = search needs
@@ -96,12 +108,17 @@ module _ (t : ℕ) where
   node-add-row c = search needs
 
   node-row-requires : node-lts.Need-row-requires node-claims (node-at t) node.Post
-  node-row-requires c κs = (omega arith, tt)
+  node-row-requires c κs =
+      let at = c .before .before .before .before .before in
+      let start = at .before .before .before .before .before .before in
+      let formed = start .pre .1 in
+      let ends = row-ends (now (start .args .grammar)) (now (start .args .tree)) (formed .nodesFormed) (start .args .n) (omega arith) (at .production-of .ensures) in
+      (omega arith, (formed, ends))
 
-  node-returns-4 : node-lts.Need-returns-4 node-claims (node-at t) node.Post
-  node-returns-4 c =
-      let at = c .before .before .before .before in
-      row-walked _ _ _ _ _ _ (at .before .node-at .ensures) (at .production-at .ensures) _ (c .before .if3 .left) (omega arith) (omega arith) (c .row .ensures)
+  node-returns-5 : node-lts.Need-returns-5 node-claims (node-at t) node.Post
+  node-returns-5 c =
+      let at = c .before .before .before .before .before .before in
+      row-walked _ _ _ _ _ _ (at .production-of .ensures) _ (c .before .before .before .if3 .left) (omega arith) (omega arith) (c .row .ensures)
 
   row-add-end : row-lts.Need-add-end row-claims (row-at t) row.Post row-Inv-loop row-μ-loop
   row-add-end c = search needs
@@ -110,13 +127,19 @@ module _ (t : ℕ) where
   row-loop-holds c = (refl, omega arith, row-begins _ _ _ _ _ _ _)
 
   row-symbol-at-requires : row-lts.Need-symbol-at-requires row-claims (row-at t) row.Post row-Inv-loop row-μ-loop
-  row-symbol-at-requires c κs = search needs
+  row-symbol-at-requires c κs =
+      let start = c .before .before .before .before .before in
+      entry-within (now (start .args .grammar)) (start .pre .1 .0 .nodesFormed .grammarFormed) (c .before .loop .y) (omega arith)
 
   row-token-requires : row-lts.Need-token-requires row-claims (row-at t) row.Post row-Inv-loop row-μ-loop
-  row-token-requires c κs = search needs
+  row-token-requires c κs =
+      let start = c .before .before .before .before .before .before .before .before in
+      tokens-end _ (now (start .args .tokens)) (start .pre .1 .0 .tokensFormed)
 
   row-node-requires : row-lts.Need-node-requires row-claims (row-at t) row.Post row-Inv-loop row-μ-loop
-  row-node-requires c κs = (omega arith, tt)
+  row-node-requires c κs =
+      let start = c .before .before .before .before .before .before .before .before in
+      (omega arith, start .pre .1 .0)
 
   -- what the walk of the symbol at y gives, by either branch
   symbol-walked : (c : row-lts.Joined1 row-claims (row-at t) row.Post row-Inv-loop row-μ-loop) →
@@ -164,14 +187,15 @@ pub +node+row-spec : {M : Type 1} → statement M
     node.Post
     (node-node-count-requires t)
     (node-returns t)
-    (node-node-at-requires t)
-    (node-production-at-requires t)
+    (node-production-of-requires t)
     (node-returns-2 t)
     (node-returns-3 t)
+    (node-add-t14 t)
+    (node-returns-4 t)
     (node-sub-row t)
     (node-add-row t)
     (node-row-requires t)
-    (node-returns-4 t))
+    (node-returns-5 t))
     λ t. row-lts.spec (row-claims t)
     (row-at t)
     row.Post
