@@ -3,6 +3,7 @@ use mathlib.Core.Path.{_≡_, refl, sym, ap, _∙_}
 use mathlib.Core.Bool.{Bool, true, false, cond}
 use mathlib.Core.List.{List, [], _∷_, _++_}
 use Prim.Native.Nat.{ℕ, _*_, _<_, _≤_}
+use native.Mathlib.Omega.{arith}
 use lib.Dec.{eqb}
 use borrow.Author.Tests.{lt-ltb, le-ltb, eq-eqb}
 use Rattle.fields.specs.Images.{Images}
@@ -19,7 +20,7 @@ use Rattle.derive.specs.declared.Derivation.{Derivation}
 use Rattle.derive.specs.declared.Derivation.the-variants.{Derived, Refused}
 use Rattle.derive.specs.Answers.{refusalAnswer, derivationAnswer}
 use Rattle.derive.specs.Images.{walkIn}
-use Rattle.judge.specs.Judged.{Entries, entries, room, tests, firstRefusal, enough, derivation}
+use Rattle.judge.specs.Judged.{Entries, entries, room, tests, firstRefusal, enough}
 use Rattle.judge.specs.Parts.{imageTests, roomTests, walkTests}
 use Rattle.judge.proofs.Passed.{first-passed}
 
@@ -82,7 +83,7 @@ module _ (s : Images) where
   -- 5 to 11
   pub walked : (r : Derivation) → derivationAnswer r ≡ walkIn s → derivationAnswer r ≡ firstRefusal (walkTests s)
   unfolding walkTests
-  walked r e = rw e at (only-walked r)
+  walked r e = only-walked r ∙ ap (λ (a : Answer). firstRefusal (a ∷ [])) e
 
 -- 4
 module _ (nodes sets indentations : ℕ) where
@@ -98,20 +99,24 @@ module _ (nodes sets indentations : ℕ) where
   unfolding firstRefusal roomTests room
   room-passed g h = rw (le-ltb sets _ g, le-ltb indentations _ h)
 
+-- lists with room for every node have room
+pub room-enough : (s : Images) → firstRefusal (roomTests (nodeCount (s .tree)) (enough s)) .number ≡ 0
+room-enough s = ap (λ (a : Answer). a .number) (sym (room-passed (nodeCount (s .tree)) _ _ (omega arith) (omega arith)))
+
+parts : (s : Images) (lent : Entries) → tests s lent ≡ imageTests s ++ (roomTests (nodeCount (s .tree)) lent ++ walkTests s)
+unfolding tests imageTests roomTests walkTests
+parts s lent = refl
+
 -- all tests, part by part; a is what a part of them gives
 module _ (s : Images) (lent : Entries) {a : Answer} where
-  parts : tests s lent ≡ imageTests s ++ (roomTests (nodeCount (s .tree)) lent ++ walkTests s)
-  unfolding tests imageTests roomTests walkTests
-  parts = refl
-
   pub images-first : a ≡ firstRefusal (imageTests s) → (a .number ≡ 0 → ⊥) → a ≡ firstRefusal (tests s lent)
-  images-first e some = rw parts (e ∙ part-refused (imageTests s) _ (λ z. some (ap (λ (a : Answer). a .number) e ∙ z)))
+  images-first e some = rw (parts s lent) (e ∙ part-refused (imageTests s) _ (λ z. some (ap (λ (a : Answer). a .number) e ∙ z)))
 
   module _ (one : firstRefusal (imageTests s) .number ≡ 0) where
     pub room-first : a ≡ firstRefusal (roomTests (nodeCount (s .tree)) lent) → (a .number ≡ 0 → ⊥) → a ≡ firstRefusal (tests s lent)
     room-first e some =
-        rw parts
+        rw (parts s lent)
         (e ∙ part-refused (roomTests (nodeCount (s .tree)) lent) (walkTests s) (λ z. some (ap (λ (a : Answer). a .number) e ∙ z)) ∙ part-passed (imageTests s) _ one)
 
     pub walk-first : firstRefusal (roomTests (nodeCount (s .tree)) lent) .number ≡ 0 → a ≡ firstRefusal (walkTests s) → a ≡ firstRefusal (tests s lent)
-    walk-first two e = rw parts (e ∙ part-passed (roomTests (nodeCount (s .tree)) lent) (walkTests s) two ∙ part-passed (imageTests s) _ one)
+    walk-first two e = rw (parts s lent) (e ∙ part-passed (roomTests (nodeCount (s .tree)) lent) (walkTests s) two ∙ part-passed (imageTests s) _ one)

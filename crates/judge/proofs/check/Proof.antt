@@ -8,8 +8,9 @@ use denote.Ref.{now}
 use Rattle.rules.specs.Walk.{Answer}
 use Rattle.fields.specs.Images.{images}
 use Rattle.tree_image.specs.TreeImage.{nodeCount}
+use Rattle.tree_image.proofs.Within.{header-within}
 use Rattle.judge.specs.Judged.{entries, tests, firstRefusal, lists}
-use Rattle.judge.proofs.Outcomes.{refused-judged, room-for-sets, room-for-indentations, some-tree, some-tree-listed, empty-judged, accepted-judged}
+use Rattle.judge.proofs.Outcomes.{refused-judged, formed, room-for-sets, room-for-indentations, some-tree, some-tree-listed, empty-judged, accepted-judged}
 use Rattle.judge.proofs.check.Statement.{statement}
 use Rattle.judge.proofs.check.Tie as tie
 
@@ -33,16 +34,21 @@ refusal-requires c κs = search needs
 returns : tie.Need-returns
 returns c = refused-judged _ _ (c .before .before .refusal .ensures) (c .if1 .taken)
 
-node-requires : tie.Need-node-requires
-node-requires c κs =
+root-requires : tie.Need-root-requires
+root-requires c κs =
     let a = c .before .before .before .before .before .before .before .before .before .args in
-    (some-tree (images (now (a .grammar)) (now (a .tokens)) (now (a .tree))) (lists (now (a .sets)) (now (a .indentations))) (passed (c .before)), sets-room (c .before))
+    let s = images (now (a .grammar)) (now (a .tokens)) (now (a .tree)) in
+    let old = lists (now (a .sets)) (now (a .indentations)) in
+    (formed s old (passed (c .before)), (some-tree s old (passed (c .before)), sets-room (c .before)))
 
 node-count-requires : tie.Need-node-count-requires
-node-count-requires c κs = search needs
+node-count-requires c κs =
+    let else = c .before .before .before .before .before .before .before in
+    let a = else .before .before .before .before .before .before .before .before .args in
+    header-within _ _ (formed (images (now (a .grammar)) (now (a .tokens)) (now (a .tree))) (lists (now (a .sets)) (now (a .indentations))) (passed else) .nodesFormed .treeFormed)
 
 highest-empty-requires : tie.Need-highest-empty-requires
-highest-empty-requires c κs = omega (arith, sets-room (c .before .before .before .before .before .before .before .before), c .node-count .ensures, c .before .before .before .before .before .before .node .kept .1 .1 .1 .0)
+highest-empty-requires c κs = omega (arith, sets-room (c .before .before .before .before .before .before .before .before), c .node-count .ensures, c .before .before .before .before .before .before .root .kept .1 .1 .1 .0)
 
 cast-t17 : tie.Need-cast-t17
 cast-t17 c = search needs
@@ -51,15 +57,17 @@ same-length : tie.Need-same-length
 same-length c = search needs
 
 returns-2 : tie.Need-returns-2
-returns-2 c = empty-judged _ _ (passed (c .before .before .before .before .before .before .before .before .before)) (c .before .before .before .before .before .before .before .node .ensures) (omega arith) (c .before .node-count .ensures) (c .highest-empty .ensures)
+returns-2 c = empty-judged _ _ (passed (c .before .before .before .before .before .before .before .before .before)) (c .before .before .before .before .before .before .before .root .ensures) (omega arith) (c .before .node-count .ensures) (c .highest-empty .ensures)
 
-node-requires-2 : tie.Need-node-requires-2
-node-requires-2 c κs =
+node-requires : tie.Need-node-requires
+node-requires c κs =
     let at = c .before .before .before .before .before .before in
     let else = at .before .before in
-    let a = else .before .before .before .before .before .before .before .before .args in (
-      some-tree-listed (images (now (a .grammar)) (now (a .tokens)) (now (a .tree))) (lists (now (a .sets)) (now (a .indentations))) (passed else),
-      (omega (arith, sets-room else, at .node .kept .1 .1 .1 .0), room-for-indentations (images (now (a .grammar)) (now (a .tokens)) (now (a .tree))) (lists (now (a .sets)) (now (a .indentations))) (passed else)),
+    let a = else .before .before .before .before .before .before .before .before .args in
+    let s = images (now (a .grammar)) (now (a .tokens)) (now (a .tree)) in
+    let old = lists (now (a .sets)) (now (a .indentations)) in (
+      formed s old (passed else) .nodesFormed,
+      (some-tree-listed s old (passed else), (omega (arith, sets-room else, at .root .kept .1 .1 .1 .0), room-for-indentations s old (passed else))),
     )
 
 same-length-2 : tie.Need-same-length-2
@@ -69,7 +77,7 @@ same-length-3 : tie.Need-same-length-3
 same-length-3 c = search needs
 
 returns-3 : tie.Need-returns-3
-returns-3 c = accepted-judged _ _ (passed (c .before .before .before .before .before .before .before .before .before .before .before)) (c .before .before .before .before .before .before .before .before .before .node .ensures) (omega arith) (c .before .before .node2 .ensures)
+returns-3 c = accepted-judged _ _ (passed (c .before .before .before .before .before .before .before .before .before .before .before)) (c .before .before .before .before .before .before .before .before .before .root .ensures) (omega arith) (c .before .before .node .ensures)
 
 pub check-spec : {M : Type 1} → statement M
 check-spec =
@@ -77,13 +85,13 @@ check-spec =
     (tie.spec
     refusal-requires
     returns
-    node-requires
+    root-requires
     node-count-requires
     highest-empty-requires
     cast-t17
     same-length
     returns-2
-    node-requires-2
+    node-requires
     same-length-2
     same-length-3
     returns-3)
