@@ -2,7 +2,7 @@
 -- those three, and 47,133 bytes are one more than these have.
 use mathlib.Core.Path.{_≡_, sym, ap, _∙_}
 use mathlib.Core.List.{List, _++_}
-use Prim.Native.Nat.{ℕ, _+_, _*_, _≤_}
+use Prim.Native.Nat.{ℕ, _+_, _*_, _≤_, min}
 use native.Mathlib.Omega.{arith}
 use borrow.Author.Tests.{leb-true, eqb-true}
 use lib.ListN.{length, take, drop, take-append-drop, length-append, List·getD-append}
@@ -40,7 +40,9 @@ field-before image rest at h = rw (List·getD-append image rest 0 at (omega arit
 cut : (total : ℕ) (image rest : List ℕ) → Sized total image → imageLength (length (image ++ rest)) (total + 2) (fieldAt (image ++ rest) total) ≡ length image
 cut total image rest s =
     let field = field-before image rest total (s .header) ∙ s .says in
-    said (length (image ++ rest)) (total + 2) (fieldAt (image ++ rest) total) (omega (arith, s .header, length-append image rest)) (omega (arith, field, length-append image rest)) ∙ field
+    let there = length (image ++ rest) in
+    let whole : min (fieldAt (image ++ rest) total) there ≡ length image = omega (arith, field, length-append image rest) in
+    sym (said there (total + 2) (fieldAt (image ++ rest) total) (omega (arith, s .header, length-append image rest))) ∙ whole
 
 module _ (grammar tokens tree : List ℕ) (g : Sized 14 grammar) (t : Sized 4 tokens) where
   grammar-back : grammarIn (grammar ++ (tokens ++ tree)) ≡ grammar

@@ -2,10 +2,10 @@
 use judge::Answer;
 use judge::check;
 ghost use mathlib.Core.Path.{_≡_};
-ghost use Prim.Native.Nat.{_≤_};
+ghost use Prim.Native.Nat.{_≤_, min};
 ghost use lib.ListN.{length};
 ghost use Rattle.judge.specs.Judged.{Judged, lists, given};
-ghost use Rattle.delivery.specs.Delivery.{imageLength, grammarLength, tokenLength};
+ghost use Rattle.delivery.specs.Delivery.{grammarLength, tokenLength};
 ghost use Rattle.delivery.specs.Delivery.{grammarIn, afterGrammar, tokensIn, treeIn, imagesIn};
 
 // The bytes of a grammar image's header.
@@ -14,37 +14,37 @@ const GRAMMAR_HEADER: usize = 16;
 // The bytes of a token image's header.
 const TOKEN_HEADER: usize = 6;
 
-// How many of the bytes that are there an image takes, by the length of its header and what its
-// total-length field says: so many, or all where fewer are there or the header is short.
-fn image_length(there: usize, header: usize, says: u16) -> usize
-    ensures { λ r. ⌜ r ≡ imageLength there header says ⌝ }
-    ensures { λ r. ⌜ r ≤ there ⌝ }
+// How many of the bytes that are there an image takes whose total-length field says so many: so many,
+// or all where fewer are there.
+fn image_length(there: usize, says: u16) -> usize
+    ensures { λ r. ⌜ r ≡ min says there ⌝ }
 {
-    if there < header {
-        return there;
-    }
     let says = says as usize;
     if there < says { there } else { says }
 }
 
-// How many bytes the grammar image of a delivery takes.
+// How many bytes the grammar image of a delivery takes: all where its header is short.
 fn grammar_length(delivery: &[u8]) -> usize
     ensures { λ r. ⌜ r ≡ grammarLength (now (delivery .entry)) ⌝ }
     ensures { λ r. ⌜ r ≤ length (now (delivery .entry)) ⌝ }
 {
-    image_length(
-        delivery.len(),
-        GRAMMAR_HEADER,
-        grammar_image::total_length(delivery),
-    )
+    let there = delivery.len();
+    if there < GRAMMAR_HEADER {
+        return there;
+    }
+    image_length(there, grammar_image::total_length(delivery))
 }
 
-// How many bytes the token image takes of what follows the grammar image.
+// How many bytes the token image takes of what follows the grammar image: all where its header is short.
 fn token_length(rest: &[u8]) -> usize
     ensures { λ r. ⌜ r ≡ tokenLength (now (rest .entry)) ⌝ }
     ensures { λ r. ⌜ r ≤ length (now (rest .entry)) ⌝ }
 {
-    image_length(rest.len(), TOKEN_HEADER, token_image::total_length(rest))
+    let there = rest.len();
+    if there < TOKEN_HEADER {
+        return there;
+    }
+    image_length(there, token_image::total_length(rest))
 }
 
 // The grammar image of a delivery.

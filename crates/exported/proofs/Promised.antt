@@ -11,7 +11,7 @@ use Rattle.packers.specs.Answers.{packedNumber, packedPlace, packedLength}
 use Rattle.packers.proofs.RoundTrip.{tree-outcome-unique, tokens-outcome-unique}
 use Rattle.judge.specs.Judged.{Lists}
 use Rattle.judge.proofs.Demands.{one-outcome}
-use Rattle.exported.specs.Calls.{Says, SaysChecked, SaysPacked, CheckCalled, TreeCalled, TokensCalled}
+use Rattle.exported.specs.Calls.{Says, SaysAnswer, SaysChecked, SaysPacked, CheckCalled, TreeCalled, TokensCalled}
 
 -- a number is the sum of its parts
 parts : (r : ℕ) → r ≡ r % 256 + 256 * (r / 256 % 16777216) + 4294967296 * (r / 4294967296)
@@ -25,6 +25,10 @@ one-result {r} {r′} s t n l p =
     (ap₂ (λ (a b : ℕ). a + 256 * b) (s .number ∙ n ∙ sym (t .number)) (s .length ∙ l ∙ sym (t .length)))
     (s .place ∙ p ∙ sym (t .place))
     ∙ sym (parts r′)
+
+-- of the check of the derivation
+pub one-answer : (a : Answer) {r r′ : ℕ} → SaysAnswer a r → SaysAnswer a r′ → r ≡ r′
+one-answer a s t = one-result s t refl refl refl
 
 -- of the check of an image
 pub one-checked : (refusal : ℕ) (c : Checked) {r r′ : ℕ} → SaysChecked refusal c r → SaysChecked refusal c r′ → r ≡ r′

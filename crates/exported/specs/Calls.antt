@@ -18,6 +18,10 @@ pub record Says (r n l p : ℕ) : Type 0 where
   pub length : r / 256 % 16777216 ≡ l
   pub place : r / 4294967296 ≡ p
 
+-- number and place, with no length
+abbrev pub SaysAnswer : Answer → ℕ → Type 0
+SaysAnswer a r = Says r (a .number) 0 (a .place)
+
 -- the check of an image, whose refusal has a number; no length
 abbrev pub SaysChecked : ℕ → Checked → ℕ → Type 0
 SaysChecked refusal c r = Says r (checkedNumber refusal c) 0 (checkedPlace c)
@@ -30,7 +34,7 @@ SaysPacked p r = Says r (packedNumber p) (packedLength p) (packedPlace p)
 pub record CheckCalled (s : Images) (old : Lists) (r : ℕ) (new : Lists) : Type 0 where
   pub answer : Answer
   pub judged : Judged s old answer new
-  pub result : Says r (answer .number) 0 (answer .place)
+  pub result : SaysAnswer answer r
 
 -- the packers: what they answer, and the output as they leave it
 pub record TreeCalled (productions out : List ℕ) (r : ℕ) (after : List ℕ) : Type 0 where

@@ -1,10 +1,12 @@
-// The C face of the library, with numbers and slices only: the check, the two packers and the checks
-// of the three images. include/pravisondo.h says to a C programmer what each takes, gives and leaves.
+// The C face of the library, with numbers and slices only: the check, that of the derivation alone, the
+// two packers and the checks of the three images. include/pravisondo.h says to a C programmer what each takes, gives and leaves.
 // Every call gives one number of 64 bits: bits 0 to 7 are the answer's number, bits 8 to 31 the
 // length that a packer wrote, bits 32 to 63 the place.
 use fields::Checked;
 use grammar_image::check_grammar;
+use judge::Answer;
 use judge::check;
+use judge::check_derivation;
 use packers::Packed;
 use token_image::check_tokens;
 use token_packer::pack_tokens;
@@ -15,14 +17,22 @@ ghost use Rattle.fields.specs.Images.{images};
 ghost use Rattle.grammar_image.specs.GrammarImage.{grammarFields};
 ghost use Rattle.token_image.specs.TokenImage.{tokenFields};
 ghost use Rattle.tree_image.specs.TreeImage.{treeFields};
-ghost use Rattle.judge.specs.Judged.{lists};
-ghost use Rattle.exported.specs.Calls.{Says, SaysChecked, SaysPacked, CheckCalled, TreeCalled, TokensCalled};
+ghost use Rattle.judge.specs.Judged.{lists, given, derivation};
+ghost use Rattle.exported.specs.Calls.{Says, SaysAnswer, SaysChecked, SaysPacked};
+ghost use Rattle.exported.specs.Calls.{CheckCalled, TreeCalled, TokensCalled};
 
 // Number, length and place in one number.
 fn in_one(number: u8, length: u16, place: u32) -> u64
     ensures { λ r. ⌜ Says r number length place ⌝ }
 {
     (number as u64) + 256 * (length as u64) + 4294967296 * (place as u64)
+}
+
+// What a check answers.
+fn answer_in_one(answer: Answer) -> u64
+    ensures { λ r. ⌜ SaysAnswer (given answer) r ⌝ }
+{
+    in_one(answer.number, 0, answer.place)
 }
 
 // What the check of an image answers, by the number of its refusal.
@@ -53,8 +63,16 @@ pub extern "C" fn pravisondo_check(
         r
         (lists (now (sets .exit)) (now (indentations .exit))) ⌝ }
 {
-    let answer = check(grammar, tokens, tree, sets, indentations);
-    in_one(answer.number, 0, answer.place)
+    answer_in_one(check(grammar, tokens, tree, sets, indentations))
+}
+
+// `judge::check_derivation`.
+#[no_mangle]
+pub extern "C" fn pravisondo_derive(grammar: &[u8], tokens: &[u8], tree: &[u8]) -> u64
+    ensures { λ r. ⌜ SaysAnswer (derivation (images (now (grammar .entry)) (now (tokens .entry)) (now (tree .entry))))
+        r ⌝ }
+{
+    answer_in_one(check_derivation(grammar, tokens, tree))
 }
 
 // `grammar_image::check_grammar`, with 1 for its refusal.

@@ -222,7 +222,11 @@ fn entry_over(image: &[u8], counts: Counts, y: usize) -> u16
     } else {
         counts.nonterminals
     };
-    let beyond = if field_at(image, at + 2) < limit { 0 } else { 1 };
+    let beyond = if field_at(image, at + 2) < limit {
+        0
+    } else {
+        1
+    };
     kind / 2 + relation / 4 + beyond
 }
 

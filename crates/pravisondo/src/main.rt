@@ -20,12 +20,17 @@ const INDENTATIONS: usize = 4096;
 // Room for the text of every answer.
 const TEXT: usize = 344106;
 
-// Checks a delivery and writes the answer. The text is gathered and written at once.
+// Checks a delivery and writes the answer. The text is gathered and written at once. The nodes are
+// counted where the tree is accepted, and so well formed.
 fn answer(delivery: &[u8]) {
     let mut sets = [0u32; SETS];
     let mut indentations = [0u32; INDENTATIONS];
     let answer = check_delivery(delivery, &mut sets, &mut indentations);
-    let nodes = node_count(tree_in(delivery)) as usize;
+    let nodes = if answer.number == 0 {
+        node_count(tree_in(delivery)) as usize
+    } else {
+        0
+    };
     let mut text = [0u8; TEXT];
     let length = report(
         answer.number,

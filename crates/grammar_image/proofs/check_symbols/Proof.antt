@@ -72,11 +72,10 @@ loop-holds c =
     let start = called .before .before .before .before in
     let image = now (start .args .image) in
     let good = called .good-entries .result in
-    let entries : entryCount image ≡ start .args .counts .entries = omega arith in
-    (
+    let entries : entryCount image ≡ start .args .counts .entries = omega arith in (
       omega (arith, called .good-entries .ensures .1),
       search-behind (symbolFields image) good (entryCount image) (called .good-entries .ensures .1) (called .good-entries .ensures .0)
-      ∙ ap (λ (n : ℕ). firstFault (eachFrom good (n - good) (symbolFields image))) entries,
+          ∙ ap (λ (n : ℕ). firstFault (eachFrom good (n - good) (symbolFields image))) entries,
     )
 
 loop2-holds : tie.Need-loop2-holds Inv-loop2 μ-loop2 Inv-loop μ-loop Inv-search μ-search

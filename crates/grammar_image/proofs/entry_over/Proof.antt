@@ -55,13 +55,13 @@ returns c =
     let entry = at-entry image (a .y) (start .pre .0 .productions) in (
       λ none.
           entry-formed image (a .y) {limit = joined .if1 .limit} (λ b. omega (arith, first .before .before .shared-slice-known .given b))
-              (first .field-at .ensures ∙ ap (fieldAt image) entry)
-              (second .field-at2 .ensures ∙ ap (λ (at : ℕ). fieldAt image (at + 2)) entry)
-              (λ even. ⊎-elim (λ w. omega (arith, w .1, start .pre .0 .terminals)) (λ w. absurd (w .0 .left even)) (joined .if1 .came))
-              (λ odd. ⊎-elim (λ w. absurd (odd (w .0 .taken))) (λ w. omega (arith, w .1, start .pre .0 .nonterminals)) (joined .if1 .came))
-              (omega arith)
-              (omega arith)
-              (⊎-elim (λ w. omega (arith, w .0 .taken)) (λ w. absurd (omega (arith, w .1))) (c .before .if2 .came)),
+          (first .field-at .ensures ∙ ap (fieldAt image) entry)
+          (second .field-at2 .ensures ∙ ap (λ (at : ℕ). fieldAt image (at + 2)) entry)
+          (λ even. ⊎-elim (λ w. omega (arith, w .1, start .pre .0 .terminals)) (λ w. absurd (w .0 .left even)) (joined .if1 .came))
+          (λ odd. ⊎-elim (λ w. absurd (odd (w .0 .taken))) (λ w. omega (arith, w .1, start .pre .0 .nonterminals)) (joined .if1 .came))
+          (omega arith)
+          (omega arith)
+          (⊎-elim (λ w. omega (arith, w .0 .taken)) (λ w. absurd (omega (arith, w .1))) (c .before .if2 .came)),
       omega (arith, at-most-one (c .before)),
     )
 

@@ -1,6 +1,9 @@
--- `pravisondo::answer` is safe: the text that is written is a part of the list that it was put into.
+-- `pravisondo::answer` is safe: the nodes are counted in a tree image that is well formed, because it was accepted, and the text that is written is a
+-- part of the list that it was put into.
 use borrow.Author.Needs.{needs}
 use native.Mathlib.Omega.{arith}
+use Rattle.tree_image.proofs.Within.{header-within}
+use Rattle.judge.proofs.Demands.{accepted-only-if}
 use Rattle.report.proofs.Promised.{within}
 use Rattle.pravisondo.proofs.answer.Statement.{statement}
 use Rattle.pravisondo.proofs.answer.Tie as tie
@@ -18,7 +21,10 @@ tree-in-requires : tie.Need-tree-in-requires
 tree-in-requires c κs = search needs
 
 node-count-requires : tie.Need-node-count-requires
-node-count-requires c κs = search needs
+node-count-requires c κs =
+    let accepted = c .before in
+    let fits = accepted-only-if (accepted .before .before .before .before .check-delivery .ensures) (accepted .if1 .taken) .0 in
+    rw (c .tree-in .ensures) (header-within _ _ (fits .treeFormed))
 
 cast-nodes : tie.Need-cast-nodes
 cast-nodes c = search needs
