@@ -40,11 +40,11 @@ fn token_length(rest: &[u8]) -> usize
     ensures { λ r. ⌜ r ≡ tokenLength (now (rest .entry)) ⌝ }
     ensures { λ r. ⌜ r ≤ length (now (rest .entry)) ⌝ }
 {
-    let there = rest.len();
-    if there < TOKEN_HEADER {
-        return there;
+    let remains = rest.len();
+    if remains < TOKEN_HEADER {
+        return remains;
     }
-    image_length(there, token_image::total_length(rest))
+    image_length(remains, token_image::total_length(rest))
 }
 
 // The grammar image of a delivery.

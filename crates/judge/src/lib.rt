@@ -101,13 +101,13 @@ fn refusal(grammar: &[u8], tokens: &[u8], tree: &[u8], sets: usize, indentations
         ≡ firstRefusal (tests (images (now (grammar .entry)) (now (tokens .entry)) (now (tree .entry)))
         (entries sets indentations)) ⌝ }
 {
-    let first = image_refusal(grammar, tokens, tree);
-    if first.number != 0 {
-        return first;
+    let of_images = image_refusal(grammar, tokens, tree);
+    if of_images.number != 0 {
+        return of_images;
     }
-    let second = room_refusal(node_count(tree), sets, indentations);
-    if second.number != 0 {
-        return second;
+    let of_room = room_refusal(node_count(tree), sets, indentations);
+    if of_room.number != 0 {
+        return of_room;
     }
     walk_refusal(grammar, tokens, tree)
 }
@@ -118,9 +118,9 @@ pub fn check_derivation(grammar: &[u8], tokens: &[u8], tree: &[u8]) -> Answer
     ensures { λ r. ⌜ given r
         ≡ derivation (images (now (grammar .entry)) (now (tokens .entry)) (now (tree .entry))) ⌝ }
 {
-    let first = image_refusal(grammar, tokens, tree);
-    if first.number != 0 {
-        return first;
+    let faulty = image_refusal(grammar, tokens, tree);
+    if faulty.number != 0 {
+        return faulty;
     }
     walk_refusal(grammar, tokens, tree)
 }
