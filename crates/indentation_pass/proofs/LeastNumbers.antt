@@ -3,7 +3,6 @@ use mathlib.Core.Path.{_≡_, refl}
 use mathlib.Core.List.{List, [], _∷_, _++_}
 use Prim.Native.Nat.{ℕ, suc, _+_, _*_, _-_, _≤_}
 use native.Mathlib.Omega.{arith}
-use native.Mathlib.Numerals.{add-one}
 use lib.ListN.{length, getD, drop, length-append}
 use Rattle.rules.specs.Grammar.{Symbol, Production}
 use Rattle.rules.specs.Tree.{Tree, node, Row, end, token, child}
@@ -11,7 +10,7 @@ use Rattle.rules.specs.Derivation.{Right, RightRow, nodes, rowNodes}
 use Rattle.rules.specs.Choice.{flat, flats}
 use Rattle.rules.specs.Interval.{setOf, setsOf, rowSets, least, leastChoice, leastChoices}
 use Rattle.rules.specs.declared.relation.Set.{Set}
-use Rattle.rules.proofs.Lists.{head-met}
+use Rattle.layout.proofs.Sets.{set-there}
 use Rattle.indentation_pass.specs.Passes.{AllUpTo}
 
 -- no number of two parts is above a limit
@@ -27,10 +26,6 @@ pub up-to : (limit : ℕ) (is : List ℕ) → ((n : ℕ) → getD is n 0 ≤ lim
 unfolding AllUpTo
 up-to limit [] h = tt
 up-to limit (i ∷ is) h = (h 0, up-to limit is (λ n. h (suc n)))
-
--- a set is told by its low and its high
-same-set : {S U : Set} → S .low ≡ U .low → S .high ≡ U .high → S ≡ U
-same-set low high = rw (low, high)
 
 module _ (G : ℕ → Production) (top : ℕ) where
   mutual
@@ -55,8 +50,4 @@ module _ (G : ℕ → Production) (top : ℕ) where
   -- a set is read where the sets of its tree stand
   pub set-read : (T : Tree) (sets after : List ℕ) (n : ℕ) {S : Set} → drop (2 * n) sets ≡ setsOf G top T ++ after → S .low ≡ getD sets (2 * n) 0 → S .high ≡ getD sets (2 * n + 1) 0 → S ≡ setOf G top T
   unfolding setsOf
-  set-read (node p row) sets after n stand low high =
-      let S = setOf G top (node p row) in
-      let first = head-met sets (2 * n) 0 (S .low) (S .high ∷ (rowSets G top row ++ after)) stand in
-      let second = head-met sets (2 * n + 1) 0 (S .high) (rowSets G top row ++ after) (rw add-one (first .2)) in
-      same-set (cc) (cc)
+  set-read (node p row) sets after n stand low high = set-there sets (rowSets G top row ++ after) (2 * n) stand low high

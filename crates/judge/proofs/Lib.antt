@@ -1,5 +1,6 @@
 -- What is proved of the check.
 pub mod Demands
+pub mod Derivations
 pub mod Meaning
 pub mod Outcomes
 pub mod Passed
