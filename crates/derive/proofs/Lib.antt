@@ -1,4 +1,3 @@
--- Laws of the walk over the images, where the tokens lie, and what the contract of `derive` promises.
-pub mod Lying
+-- Laws of the walk over the images, and what the contract of `derive` promises.
 pub mod Promised
 pub mod Walking

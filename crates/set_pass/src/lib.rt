@@ -56,9 +56,9 @@ fn node(grammar: &[u8], tokens: &[u8], tree: &[u8], sets: &mut [u32], next: u32)
     row(grammar, tokens, tree, sets, first, end, next)
 }
 
-// Writes the sets of the nodes of a row, the symbols from entry `first` up to `end`, and then what the
-// row leaves of all whole numbers as the set of the node before it, which is `parent`'s next. Returns
-// what comes next behind the row.
+// Writes the sets of a row: those of its nodes, which the symbols from entry `first` up to `end` name,
+// and then that of the node whose row it is, what they leave of all whole numbers. `parent` is what
+// came next at that node. Returns what comes next behind the row.
 fn row(
     grammar: &[u8],
     tokens: &[u8],

@@ -21,10 +21,14 @@ module _ (T : ℕ) (image : List ℕ) (formed : WellFormed (tokenFields T image)
   unfolding tokenFields
   header = formed-parts (headerFields image) (recordsFields T image) formed .0
 
+  -- for all tokens
+  pub tokens-end : 6 + 4 * tokenCount image ≤ length image
+  tokens-end = tokens-within image header
+
   -- for `token_count` and `total_length`
   pub header-within : 6 ≤ length image
-  header-within = omega (arith, tokens-within image header)
+  header-within = omega (arith, tokens-end)
 
   -- for `token_at`
   pub token-within : (k : ℕ) → k < tokenCount image → 6 + 4 * k + 4 ≤ length image
-  token-within k h = omega (arith, tokens-within image header)
+  token-within k h = omega (arith, tokens-end)

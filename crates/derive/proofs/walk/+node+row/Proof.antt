@@ -15,7 +15,7 @@ use Rattle.derive.specs.Images.{nodeDueIn, rowDueIn}
 use Rattle.grammar_image.proofs.Within.{entry-within}
 use Rattle.tree_image.proofs.Within.{header-within}
 use Rattle.images.proofs.Within.{row-ends}
-use Rattle.derive.proofs.Lying.{tokens-end}
+use Rattle.token_image.proofs.Within.{tokens-end}
 use Rattle.derive.proofs.Walking.{no-node, other-left, too-deep, row-empty, row-walked, row-refused, row-goes-on, row-used, row-begins, terminal-due, nonterminal-due}
 use denote.Ref.{now}
 use borrow.Fn.Kinds.{In}
