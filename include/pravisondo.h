@@ -1,4 +1,5 @@
-/* Pravisondo for C and C++: the check of a proposed parse tree, the checks of single images, and two packers.
+/* Pravisondo for C and C++: the check of a proposed parse tree, the check of its derivation alone, the checks of single
+ * images, and two packers.
  *
  * On x86-64, once `rt staticlib exported` has written the library:
  *     cc loader.c -Iinclude target/staticlib/libexported.a
@@ -39,7 +40,7 @@ extern "C" {
 /* The numbers of the answers. D is the number of nodes of the tree image and K that of tokens of the token image;
  * nodes, tokens and bytes are counted from 0. Where nothing else is said, nothing is written. */
 enum {
-    PRAVISONDO_ACCEPTED = 0,       /* accepted, well formed, or packed. Place: 0. Written: as the call says */
+    PRAVISONDO_ACCEPTED = 0,       /* accepted, derived, well formed, or packed. Place: 0. Written: as the call says */
     PRAVISONDO_GRAMMAR_IMAGE = 1,  /* grammar image. Place: byte of the first field that breaks its rule;
                                       the image's length if that is under 16 */
     PRAVISONDO_TOKEN_IMAGE = 2,    /* token image. Place: byte of that field; the image's length if under 6 */
@@ -93,6 +94,14 @@ uint64_t pravisondo_check(const uint8_t *grammar, size_t grammar_length,
                           const uint8_t *tree, size_t tree_length,
                           uint32_t *sets, size_t sets_length,
                           uint32_t *indentations, size_t indentations_length);
+
+/* Whether the nodes of the tree image are a right tree over the tokens, whatever their columns: the check without its
+ * relations, for a caller who wants the derivation alone. It needs no lists. Number 0, 1 to 3 or 5 to 11; writes
+ * nothing. A refusal is the one, with its place, that pravisondo_check gives for the same images if both its lists have
+ * room; on 0 that call gives 0 or 12. */
+uint64_t pravisondo_derive(const uint8_t *grammar, size_t grammar_length,
+                           const uint8_t *tokens, size_t tokens_length,
+                           const uint8_t *tree, size_t tree_length);
 
 /* Whether the grammar image is well formed. Number 0 or 1; writes nothing. */
 uint64_t pravisondo_check_grammar(const uint8_t *image, size_t length);

@@ -49,6 +49,7 @@ FAULTS = {
 }
 
 # Sheet A of document 01, packed and checked from C. GRAMMAR stands for the bytes of its grammar image; 77 is a mark.
+# `day` is a token image of a day alone, `root` a tree image of the root alone.
 CALLS = r"""
 #include <stdio.h>
 #include <string.h>
@@ -59,6 +60,7 @@ CALLS = r"""
 #define SAME(list, expected) if (memcmp(list, expected, sizeof list)) failed = printf("line %d: %s\n", __LINE__, #list)
 
 static const uint8_t grammar[] = {GRAMMAR}, zeros[100];
+static const uint8_t day[] = {1, 0, 6, 0, 10, 0, 0, 0, 1, 0}, root[] = {1, 0, 6, 0, 8, 0, 0, 0};
 static const uint16_t terminals[] = {0, 1, 2, 1}, columns[] = {1, 3, 5, 3}, far[] = {1, 3, 4096, 4096};
 static const uint16_t nodes[] = {0, 1, 3, 4, 5, 1, 3, 5, 2};
 static const uint32_t low_high[] = {1, 1, 3, 3, 3, 3, 0, 5, 0, NONE, 3, 3, 3, 3, 0, NONE, 0, NONE, 77};
@@ -77,6 +79,11 @@ static void expect(int line, uint64_t answer, unsigned number, unsigned place, u
 static uint64_t check(size_t room, size_t indentations_room)
 {
     return pravisondo_check(grammar, sizeof grammar, tokens, 22, tree, 24, sets, room, indentations, indentations_room);
+}
+
+static uint64_t derive(const uint8_t *its_tokens, size_t tokens_length, const uint8_t *its_tree, size_t tree_length)
+{
+    return pravisondo_derive(grammar, sizeof grammar, its_tokens, tokens_length, its_tree, tree_length);
 }
 
 int main(void)
@@ -107,6 +114,13 @@ int main(void)
     EXPECT(check(19, 10), PRAVISONDO_ACCEPTED, 0, 0);
     SAME(sets, low_high);
     SAME(indentations, least);
+    EXPECT(derive(tokens, 22, tree, 24), PRAVISONDO_ACCEPTED, 0, 0);
+    EXPECT(derive(tokens, 22, tree, 23), PRAVISONDO_TREE_IMAGE, 4, 0);
+    EXPECT(derive(day, sizeof day, tree, 24), PRAVISONDO_TOKENS_END, 1, 0);
+    EXPECT(derive(tokens, 22, root, sizeof root), PRAVISONDO_NODES_END, 1, 0);
+    tokens[16] = 3; /* the item's column, which the check alone judges */
+    EXPECT(derive(tokens, 22, tree, 24), PRAVISONDO_ACCEPTED, 0, 0);
+    EXPECT(check(19, 10), PRAVISONDO_EMPTY_SET, 2, 0);
     return failed;
 }
 """

@@ -49,6 +49,21 @@ pub fn check(
     })
 }
 
+/// Judges the derivation alone: the check's number and place, with room for
+/// every node, but 0 where the check goes on to the columns.
+pub fn derive(grammar: &[u8], tokens: &[u8], tree: &[u8]) -> Answer {
+    Answer::of(unsafe {
+        pravisondo_derive(
+            grammar.as_ptr(),
+            grammar.len(),
+            tokens.as_ptr(),
+            tokens.len(),
+            tree.as_ptr(),
+            tree.len(),
+        )
+    })
+}
+
 /// Number 0 or 1.
 pub fn check_grammar(image: &[u8]) -> Answer {
     Answer::of(unsafe { pravisondo_check_grammar(image.as_ptr(), image.len()) })
@@ -106,6 +121,15 @@ extern "C" {
         sets_length: usize,
         indentations: *mut u32,
         indentations_length: usize,
+    ) -> u64;
+
+    fn pravisondo_derive(
+        grammar: *const u8,
+        grammar_length: usize,
+        tokens: *const u8,
+        tokens_length: usize,
+        tree: *const u8,
+        tree_length: usize,
     ) -> u64;
 
     fn pravisondo_check_grammar(image: *const u8, length: usize) -> u64;

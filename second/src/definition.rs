@@ -63,6 +63,19 @@ pub fn check(
     (0, 0)
 }
 
+/// Number and place for the derivation alone: what the tests of the check give
+/// that come before any set, with room for every node.
+pub fn derive(grammar: &[u8], tokens: &[u8], tree: &[u8]) -> (u8, usize) {
+    let images = match Images::read(grammar, tokens, tree) {
+        Ok(images) => images,
+        Err(refusal) => return refusal,
+    };
+    match Walk::over(&images).tree() {
+        Ok(_) => (0, 0),
+        Err(refusal) => refusal,
+    }
+}
+
 /// How large an input is: its nodes, and the depth that the walk reached.
 pub struct Shape {
     pub nodes: usize,

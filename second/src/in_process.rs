@@ -1,10 +1,12 @@
-//! The comparison in one process: the six calls of a subject on generated
+//! The comparison in one process: the seven calls of a subject on generated
 //! inputs, beside `plain` and, one input in so many, `definition`.
 //!
 //! Compared are number, place and length, and every entry of every lent list.
 //! Beyond that the subject alone is held to document 01's word that nothing
-//! but the named entries changes, also outside what was lent.
+//! but the named entries changes, also outside what was lent; and what it says
+//! of the derivation alone has to be what its whole check says of it.
 
+mod derivation;
 mod images;
 mod packers;
 mod tally;
@@ -13,7 +15,9 @@ mod whole;
 use crate::generate::{self, random::Random};
 use crate::subject::{Answer, Subject, DEFINITION, PLAIN};
 use crate::turns::{self, Inputs};
+pub use derivation::agree;
 use packers::Packers;
+use tally::Call;
 pub use tally::Tally;
 use whole::Whole;
 
@@ -69,6 +73,7 @@ impl Worker {
         };
         self.whole
             .compare(&mut turn)
+            .and_then(|whole| derivation::compare(&mut turn, whole))
             .and_then(|()| images::compare(&mut turn))
             .and_then(|()| self.packers.compare(&mut turn))
             .map_err(|text| {
@@ -97,6 +102,17 @@ fn same(given: Answer, other: &Subject, expected: Answer) -> Result<(), String> 
         return Ok(());
     }
     Err(format!("{given} given, {expected} by {}", other.name))
+}
+
+/// A call that is lent nothing: the subject's answer, which has to be the
+/// others'.
+fn one(turn: &mut Turn, call: Call, ask: impl Fn(&Subject) -> Answer) -> Result<Answer, String> {
+    let given = ask(&turn.subject);
+    for other in turn.others {
+        same(given, other, ask(other)).map_err(|text| format!("{}: {text}", call.name()))?;
+    }
+    turn.tally.add(call, given.number);
+    Ok(given)
 }
 
 /// Enough for most calls: just enough, or a little more. Else too little, by

@@ -6,7 +6,7 @@
 //! difference.
 //!
 //! `bin/compare.rs` holds another program against the two, by what it prints.
-//! `in_process` does so with whatever gives the six calls of the library, and
+//! `in_process` does so with whatever gives the seven calls of the library, and
 //! `trials` are fixed calls with their answers. Nothing here is linked with
 //! the proved code; `calls` beside this package is.
 

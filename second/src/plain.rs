@@ -7,6 +7,7 @@ mod packing;
 mod reading;
 mod walk;
 
+use images::Images;
 pub use packing::{pack_tokens, pack_tree};
 pub use reading::{Reading, Right};
 use walk::{Note, NO_BOUND};
@@ -22,6 +23,17 @@ pub fn check(
     indentations: &mut [u32],
 ) -> (u8, usize) {
     match judge::<Right>(grammar, tokens, tree, sets, indentations) {
+        Ok(()) => (0, 0),
+        Err(refusal) => refusal,
+    }
+}
+
+/// Number and place for the derivation alone, whatever the columns: the check
+/// up to its walk, which notes nothing here.
+pub fn derive(grammar: &[u8], tokens: &[u8], tree: &[u8]) -> (u8, usize) {
+    let derived = Images::read::<Right>(grammar, tokens, tree)
+        .and_then(|images| walk::derive::<Right, _>(&images, &mut ()));
+    match derived {
         Ok(()) => (0, 0),
         Err(refusal) => refusal,
     }
@@ -63,16 +75,14 @@ pub fn judge<R: Reading>(
     sets: &mut [u32],
     indentations: &mut [u32],
 ) -> Result<(), Refusal> {
-    let grammar = images::grammar::<R>(grammar).map_err(|place| (1, place))?;
-    let tokens = images::tokens(tokens, grammar.terminals).map_err(|place| (2, place))?;
-    let nodes = images::nodes(tree, grammar.productions.len()).map_err(|place| (3, place))?;
-    let count = nodes.len();
+    let images = Images::read::<R>(grammar, tokens, tree)?;
+    let count = images.nodes.len();
     let sets = sets.get_mut(..2 * count).ok_or((4, 2 * count))?;
     let indentations = indentations.get_mut(..count).ok_or((4, count))?;
 
     let mut notes = [Note::default(); MOST_NODES];
     let notes = &mut notes[..count];
-    walk::derive::<R>(&grammar, tokens, nodes, notes)?;
+    walk::derive::<R, _>(&images, notes)?;
     if let Some(place) = write_sets::<R>(notes, sets) {
         return Err((12, place));
     }

@@ -1,4 +1,4 @@
-//! The six calls of the library, by whoever gives them: the proved code by
+//! The seven calls of the library, by whoever gives them: the proved code by
 //! its C names, or a check of this package.
 
 use crate::{definition, plain};
@@ -39,11 +39,15 @@ impl fmt::Display for Answer {
     }
 }
 
+/// The whole check, which is lent sets and indentations.
+type Check = fn(&[u8], &[u8], &[u8], &mut [u32], &mut [u32]) -> Answer;
+
 /// Whose calls are compared.
 #[derive(Clone, Copy)]
 pub struct Subject {
     pub name: &'static str,
-    pub check: fn(&[u8], &[u8], &[u8], &mut [u32], &mut [u32]) -> Answer,
+    pub check: Check,
+    pub derive: fn(&[u8], &[u8], &[u8]) -> Answer,
     pub check_grammar: fn(&[u8]) -> Answer,
     pub check_tokens: fn(&[u8], u16) -> Answer,
     pub check_tree: fn(&[u8], u16) -> Answer,
@@ -51,7 +55,7 @@ pub struct Subject {
     pub pack_tokens: fn(&[u16], &[u16], &mut [u8]) -> Answer,
 }
 
-/// A module of this package that has the six calls under these names.
+/// A module of this package that has the seven calls under these names.
 macro_rules! calls_of {
     ($module:ident) => {
         Subject {
@@ -59,6 +63,7 @@ macro_rules! calls_of {
             check: |grammar, tokens, tree, sets, indentations| {
                 $module::check(grammar, tokens, tree, sets, indentations).into()
             },
+            derive: |grammar, tokens, tree| $module::derive(grammar, tokens, tree).into(),
             check_grammar: |image| $module::check_grammar(image).into(),
             check_tokens: |image, terminals| $module::check_tokens(image, terminals).into(),
             check_tree: |image, productions| $module::check_tree(image, productions).into(),

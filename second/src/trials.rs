@@ -1,18 +1,19 @@
 //! Fixed calls with answers written by hand from document 01, for what only a
-//! call can show: the checks of a single image, both packers, and the check
-//! with lists that are too short.
+//! call can show: the checks of a single image, both packers, the check with
+//! lists that are too short, and the check of the derivation alone.
 //!
 //! A trial is a line of what has to come back: a label, then number and place;
 //! for a packer also the length, for the check what it wrote to the two lists.
 //! How many other entries changed is told where any did, which is in no line.
 
+mod derivation;
 mod grammar;
 mod limits;
 mod packing;
 mod refusals;
 mod sheet;
 
-use crate::build::{changed, Change};
+use crate::build::{changed, token_image, tree_image, trial, Change, A_TOKENS, A_TREE};
 use crate::subject::{Answer, Subject};
 use std::fmt::Display;
 
@@ -32,6 +33,7 @@ pub fn run(subject: &Subject) -> Trials {
     limits::run(subject, &mut trials);
     packing::run(subject, &mut trials);
     refusals::run(subject, &mut trials);
+    derivation::run(subject, &mut trials);
     trials
 }
 
@@ -65,6 +67,27 @@ impl Trials {
 
 /// A line, the fields that are changed for it, and the length of the image.
 type Changed<'a> = (&'a str, &'a [Change], usize);
+
+/// The fields of an image that are changed.
+type Changes = &'static [Change];
+
+/// The images of sheet A with some fields of each changed.
+fn sheet_a(grammar: Changes, tokens: Changes, tree: Changes) -> [Vec<u8>; 3] {
+    [
+        changed(trial(), grammar),
+        changed(token_image(&A_TOKENS), tokens),
+        changed(tree_image(&A_TREE), tree),
+    ]
+}
+
+/// The images of sheet A cut to these lengths.
+fn cut_sheet_a(lengths: [usize; 3]) -> [Vec<u8>; 3] {
+    let mut images = sheet_a(&[], &[], &[]);
+    for (image, length) in images.iter_mut().zip(lengths) {
+        image.truncate(length);
+    }
+    images
+}
 
 /// Numbers with a blank between them.
 fn numbers<T: Display>(list: &[T]) -> String {

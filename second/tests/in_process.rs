@@ -1,7 +1,7 @@
 //! The in-process comparison is itself tried: it finds nothing on the checks
 //! of this package, and it finds each wrong version.
 
-use second::in_process::{compare, Run, Tally};
+use second::in_process::{agree, compare, Run, Tally};
 use second::plain::{self, Reading};
 use second::subject::{Answer, Subject, DEFINITION, PLAIN};
 use second::turns::{Inputs, SEED};
@@ -132,6 +132,70 @@ fn list_written_on_12() {
         }
         answer
     }));
+}
+
+#[test]
+fn derivation_that_judges_columns() {
+    found(Subject {
+        name: "a derivation with 12",
+        derive: |grammar, tokens, tree| {
+            (PLAIN.check)(grammar, tokens, tree, &mut [0; 8192], &mut [0; 4096])
+        },
+        ..PLAIN
+    });
+}
+
+/// With lists that are too short for the greatest trees alone.
+#[test]
+fn derivation_that_asks_for_room() {
+    found(Subject {
+        name: "a derivation with 4",
+        derive: |grammar, tokens, tree| match (PLAIN.check)(
+            grammar,
+            tokens,
+            tree,
+            &mut [0; 8190],
+            &mut [0; 4095],
+        ) {
+            room if room.number == 4 => room,
+            _ => (PLAIN.derive)(grammar, tokens, tree),
+        },
+        ..PLAIN
+    });
+}
+
+#[test]
+fn derivation_that_forgets_tokens() {
+    found(Subject {
+        name: "a derivation without 11",
+        derive: |grammar, tokens, tree| match (PLAIN.derive)(grammar, tokens, tree) {
+            remaining if remaining.number == 11 => Answer::from((0, 0)),
+            answer => answer,
+        },
+        ..PLAIN
+    });
+}
+
+/// Which answers of the derivation alone go with which of the whole check.
+#[test]
+fn two_checks_that_agree() {
+    let given = [
+        ((0, 0), (0, 0), true),
+        ((0, 0), (12, 3), true),
+        ((3, 6), (3, 6), true),
+        ((7, 2), (7, 2), true),
+        ((0, 0), (11, 1), false),
+        ((11, 1), (0, 0), false),
+        ((11, 1), (12, 1), false),
+        ((7, 2), (7, 3), false),
+        ((7, 2), (8, 2), false),
+        ((12, 3), (12, 3), false),
+        ((4, 18), (4, 18), false),
+    ];
+    for (derivation, whole, expected) in given {
+        let agreed = agree(Answer::from(derivation), Answer::from(whole));
+        assert_eq!(agreed, expected, "{derivation:?} and {whole:?}");
+    }
 }
 
 #[test]

@@ -48,7 +48,7 @@ fn refusals_leave_both_lists_alone() {
     let deep_tokens = [vec![(DAY, 1)], vec![(HOUR, 3); 254]].concat();
     let two = token_image(&[(DAY, 1), (HOUR, 3)]);
     let short = vec![0; 3];
-    let cases: [(u8, Vec<u8>, Vec<u8>, Vec<u8>); 10] = [
+    let cases = [
         (1, short.clone(), day.clone(), tree_image(&[0, 2])),
         (2, trial(), short.clone(), tree_image(&[0, 2])),
         (3, trial(), day.clone(), short),

@@ -18,6 +18,7 @@ const C_NAMES: Subject = Subject {
     check: |grammar, tokens, tree, sets, indentations| {
         answer(calls::check(grammar, tokens, tree, sets, indentations))
     },
+    derive: |grammar, tokens, tree| answer(calls::derive(grammar, tokens, tree)),
     check_grammar: |image| answer(calls::check_grammar(image)),
     check_tokens: |image, terminals| answer(calls::check_tokens(image, terminals)),
     check_tree: |image, productions| answer(calls::check_tree(image, productions)),

@@ -1,9 +1,8 @@
 //! The checks of a single image, also with other counts than the grammar's.
 
 use super::tally::Call;
-use super::{same, Turn};
+use super::{one, Turn};
 use crate::generate::random::Random;
-use crate::subject::{Answer, Subject};
 
 pub fn compare(turn: &mut Turn) -> Result<(), String> {
     let [grammar, tokens, tree] = turn.images;
@@ -19,15 +18,7 @@ pub fn compare(turn: &mut Turn) -> Result<(), String> {
     one(turn, Call::CheckTree, |calls| {
         (calls.check_tree)(tree, productions)
     })
-    .map_err(|text| format!("{text}; with {productions} productions"))
-}
-
-fn one(turn: &mut Turn, call: Call, ask: impl Fn(&Subject) -> Answer) -> Result<(), String> {
-    let given = ask(&turn.subject);
-    for other in turn.others {
-        same(given, other, ask(other)).map_err(|text| format!("{}: {text}", call.name()))?;
-    }
-    turn.tally.add(call, given.number);
+    .map_err(|text| format!("{text}; with {productions} productions"))?;
     Ok(())
 }
 

@@ -5,6 +5,7 @@ use std::fmt;
 #[derive(Clone, Copy)]
 pub enum Call {
     Check,
+    Derive,
     CheckGrammar,
     CheckTokens,
     CheckTree,
@@ -12,13 +13,14 @@ pub enum Call {
     PackTokens,
 }
 
-/// Each call with its name and the numbers that document 01 has for it.
-const CALLS: [(Call, &str, &[u8]); 6] = [
+/// Each call with its name and the numbers of document 01 that it can give.
+const CALLS: [(Call, &str, &[u8]); 7] = [
     (
         Call::Check,
         "check",
         &[0, 1, 2, 3, 4, 5, 6, 7, 8, 9, 10, 11, 12],
     ),
+    (Call::Derive, "derive", &[0, 1, 2, 3, 5, 6, 7, 8, 9, 10, 11]),
     (Call::CheckGrammar, "check_grammar", &[0, 1]),
     (Call::CheckTokens, "check_tokens", &[0, 2]),
     (Call::CheckTree, "check_tree", &[0, 3]),

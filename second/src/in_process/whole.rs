@@ -63,7 +63,8 @@ impl Lists {
 }
 
 impl Whole {
-    pub fn compare(&mut self, turn: &mut Turn) -> Result<(), String> {
+    /// Gives what the subject answers where there is room for every node.
+    pub fn compare(&mut self, turn: &mut Turn) -> Result<Answer, String> {
         let nodes = nodes(&turn.images[2]);
         let lending = Lending {
             sets: room(&mut turn.random, 2 * nodes),
@@ -85,10 +86,18 @@ impl Whole {
         turn.tally.add(Call::Check, given.number);
         match given.number {
             0 | 12 => turn.tally.add_nodes(nodes),
-            4 => turn.tally.add_short(lending.sets < 2 * nodes),
+            4 => {
+                turn.tally.add_short(lending.sets < 2 * nodes);
+                let enough = Lending {
+                    sets: 2 * nodes,
+                    indentations: nodes,
+                    ..lending
+                };
+                return Ok(self.given.check(&turn.subject, turn.images, enough));
+            }
             _ => {}
         }
-        Ok(())
+        Ok(given)
     }
 }
 

@@ -1,6 +1,34 @@
 //! Reading the three images. A fault is given as the byte of its field.
 
 use super::reading::Reading;
+use super::Refusal;
+
+pub struct Images<'a> {
+    pub grammar: Grammar<'a>,
+    /// Terminal and column each.
+    pub tokens: &'a [[u8; 4]],
+    /// A production number each.
+    pub nodes: &'a [[u8; 2]],
+}
+
+impl<'a> Images<'a> {
+    /// The three images, or the first refusal of 1 to 3.
+    #[inline(always)]
+    pub fn read<R: Reading>(
+        grammar_image: &'a [u8],
+        token_image: &'a [u8],
+        tree_image: &'a [u8],
+    ) -> Result<Images<'a>, Refusal> {
+        let grammar = grammar::<R>(grammar_image).map_err(|place| (1, place))?;
+        let tokens = tokens(token_image, grammar.terminals).map_err(|place| (2, place))?;
+        let nodes = nodes(tree_image, grammar.productions.len()).map_err(|place| (3, place))?;
+        Ok(Images {
+            grammar,
+            tokens,
+            nodes,
+        })
+    }
+}
 
 pub struct Grammar<'a> {
     pub terminals: u16,

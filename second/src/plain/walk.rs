@@ -1,8 +1,10 @@
-//! The walk in preorder that judges the derivation and notes, for each node,
-//! what stands above it and what its own tokens allow.
+//! The walk in preorder that judges the derivation and, for a check of the
+//! columns, notes for each node what stands above it and what its own tokens
+//! allow.
 
-use super::images::{word, Grammar};
+use super::images::{word, Images};
 use super::reading::Reading;
+use super::Refusal;
 
 /// The high of a note without upper bound. Columns end at 4,095, so no bound
 /// ever comes near it.
@@ -46,6 +48,35 @@ impl Note {
     }
 }
 
+/// Where the walk leaves what it meets: in a list with one note a node, or
+/// nowhere, if the derivation is all that is asked.
+pub trait Noted {
+    fn node(&mut self, node: usize, above: u16, relation: u16);
+    fn token<R: Reading>(&mut self, node: u16, relation: u16, column: i16);
+}
+
+impl Noted for [Note] {
+    #[inline(always)]
+    fn node(&mut self, node: usize, above: u16, relation: u16) {
+        self[node] = Note {
+            above,
+            relation,
+            low: 0,
+            high: NO_BOUND,
+        };
+    }
+
+    #[inline(always)]
+    fn token<R: Reading>(&mut self, node: u16, relation: u16, column: i16) {
+        self[usize::from(node)].meet::<R>(relation, column, column);
+    }
+}
+
+impl Noted for () {
+    fn node(&mut self, _: usize, _: u16, _: u16) {}
+    fn token<R: Reading>(&mut self, _: u16, _: u16, _: i16) {}
+}
+
 /// An open node and the symbol entries of its row that are still due.
 #[derive(Clone, Copy, Default)]
 struct Row {
@@ -54,14 +85,16 @@ struct Row {
     end: u16,
 }
 
-/// Walks the tree and gives the first refusal of 5 to 11. `notes` has one
-/// entry a node.
-pub fn derive<R: Reading>(
-    grammar: &Grammar,
-    tokens: &[[u8; 4]],
-    nodes: &[[u8; 2]],
-    notes: &mut [Note],
-) -> Result<(), (u8, usize)> {
+/// Walks the tree and gives the first refusal of 5 to 11.
+pub fn derive<R: Reading, N: Noted + ?Sized>(
+    images: &Images,
+    notes: &mut N,
+) -> Result<(), Refusal> {
+    let Images {
+        grammar,
+        tokens,
+        nodes,
+    } = images;
     let mut rows = [Row::default(); MOST_DEPTH];
     let mut depth = 0;
     let mut node = 0;
@@ -82,12 +115,7 @@ pub fn derive<R: Reading>(
         if depth == MOST_DEPTH {
             return Err((9, node));
         }
-        notes[node] = Note {
-            above,
-            relation,
-            low: 0,
-            high: NO_BOUND,
-        };
+        notes.node(node, above, relation);
         let first = word(f0, f1);
         let mut row = Row {
             node: node as u16,
@@ -125,13 +153,13 @@ pub fn derive<R: Reading>(
                 return Err((7, token));
             }
             let column = word(c0, c1) as i16;
-            notes[usize::from(row.node)].meet::<R>(its_relation, column, column);
+            notes.token::<R>(row.node, its_relation, column);
             token += 1;
         }
     }
 }
 
-fn all_used(node: usize, nodes: usize, token: usize, tokens: usize) -> Result<(), (u8, usize)> {
+fn all_used(node: usize, nodes: usize, token: usize, tokens: usize) -> Result<(), Refusal> {
     if node < nodes {
         Err((10, node))
     } else if token < tokens {

@@ -2,8 +2,7 @@
 //! the first in the order of document 01's table is given, whatever is wrong
 //! with what is tested later.
 
-use super::{numbers, outside, Trials};
-use crate::build::{changed, token_image, tree_image, trial, Change, A_TOKENS, A_TREE};
+use super::{cut_sheet_a, numbers, outside, sheet_a, Changes, Trials};
 use crate::lent::Lent;
 use crate::subject::Subject;
 
@@ -12,8 +11,6 @@ const MARK: u32 = 4_000_000_000;
 
 /// Room for the sets and the indentations of every tree, and some more.
 const ROOM: [usize; 2] = [8200, 4100];
-
-type Changes = &'static [Change];
 
 /// A line, and the fields of grammar, token and tree image that are changed;
 /// no entries are lent. Sheet A's own fields are 3 terminals, 4 tokens and 9
@@ -88,23 +85,11 @@ pub fn run(subject: &Subject, trials: &mut Trials) {
         );
     }
     for (line, lengths) in LENGTHS {
-        let mut images = sheet_a(&[], &[], &[]);
-        for (image, length) in images.iter_mut().zip(lengths) {
-            image.truncate(length);
-        }
-        checked(subject, trials, line, images, ROOM);
+        checked(subject, trials, line, cut_sheet_a(lengths), ROOM);
     }
     for (line, [grammar, tokens], room) in ROOMS {
         checked(subject, trials, line, sheet_a(grammar, tokens, &[]), room);
     }
-}
-
-fn sheet_a(grammar: Changes, tokens: Changes, tree: Changes) -> [Vec<u8>; 3] {
-    [
-        changed(trial(), grammar),
-        changed(token_image(&A_TOKENS), tokens),
-        changed(tree_image(&A_TREE), tree),
-    ]
 }
 
 /// Number and place, and of sheet A's lists what the answer says is written.
