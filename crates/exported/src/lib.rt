@@ -1,7 +1,7 @@
 // The C face of the library, with numbers and slices only: the check, that of the derivation alone, the
-// two packers and the checks of the three images. include/pravisondo.h says to a C programmer what each takes, gives and leaves.
-// Every call gives one number of 64 bits: bits 0 to 7 are the answer's number, bits 8 to 31 the
-// length that a packer wrote, bits 32 to 63 the place.
+// two packers and the checks of the three images. include/pravisondo.h says to a C programmer what each
+// takes, gives and leaves. Every call gives one number of 64 bits: bits 0 to 7 are the answer's number,
+// bits 8 to 31 the length that a packer wrote, bits 32 to 63 the place.
 use fields::Checked;
 use grammar_image::check_grammar;
 use judge::Answer;
