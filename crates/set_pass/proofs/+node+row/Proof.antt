@@ -3,7 +3,7 @@
 use borrow.Author.Needs.{needs}
 use borrow.Author.Tests.{eqb-true}
 use mathlib.Core.Path.{_≡_, refl, sym, ap, _∙_}
-use mathlib.Core.List.{List}
+use mathlib.Core.List.{List, [], _∷_}
 use lib.ListN.{length}
 use Prim.Native.Nat.{ℕ, _<_, _≤_, _+_, _*_, _-_}
 use native.Mathlib.Omega.{arith}
@@ -18,6 +18,7 @@ use Rattle.token_image.proofs.Within.{token-within as token-lies}
 use Rattle.tree_image.specs.TreeImage.{nodeCount, nodeAt}
 use Rattle.images.proofs.Within.{row-ends}
 use Rattle.layout.specs.Standing.{symbols, SomeTree, SomeRow}
+use Rattle.layout.specs.Written.{writtenAt}
 use Rattle.layout.proofs.Rows.{count-fits}
 use Rattle.set_pass.specs.Next.{nextNode, nextToken}
 use Rattle.set_pass.proofs.SetPass.{RowDone, node-there, row-behind, node-passed, row-stored, row-end-passed, empty-set, empty-passed, child-set, token-within, row-after-token, token-passed, tree-here, next-behind, row-after-child, child-passed}
@@ -264,7 +265,8 @@ module _ (t : ℕ) where
       let none =
       rw here at (eqb-true (countOf (now (start .args .grammar)) (nodeAt (now (start .args .tree)) (tested .before .next-node .result))) 0 (sym (tested .is-empty .ensures) ∙ c .before .before .before .before .before .before .before .before .before .if2 .taken))
       in
-      let passed = empty-passed _ _ _ _ _ _ none (past .0) (past .1) (stored .before .all2 .ensures) (omega (arith, node-there _ _ _ (child-here at))) (rw here at (stored .store .ensures)) in
+      let all = stored .before .all2 .result in
+      let passed = empty-passed _ _ _ _ _ _ none (past .0) (past .1) (stored .before .all2 .ensures) (omega (arith, node-there _ _ _ (child-here at))) (stored .store .ensures ∙ ap (λ (n : ℕ). writtenAt (2 * n) (all .low ∷ all .high ∷ []) (turn .loop .sets)) here) in
       let leaves = c .before .meet2 .ensures ∙ ap (meet _) (c .before .before .child-leaves .ensures ∙ ap (childLeaves unbounded _) (c .before .before .before .all3 .ensures)) in (
         omega (arith, inv .0, past .0),
         omega (arith, inv .1, stored .store .kept .0),
