@@ -1,10 +1,9 @@
 -- A symbol entry that breaks its rules by nothing keeps them.
 use mathlib.Core.Path.{_≡_}
-use mathlib.Core.Bool.{true, false}
 use mathlib.Core.List.{List}
-use Prim.Native.Nat.{ℕ, zero, suc, _+_, _*_, _<_, _≤_, _/_, _%_}
+use Prim.Native.Nat.{ℕ, zero, suc, _+_, _<_, _≤_, _/_, _%_}
 use native.Mathlib.Omega.{arith}
-use borrow.Author.Tests.{le-leb, lt-ltb, eq-eqb, ne-eqb}
+use borrow.Author.Tests.{le-leb, lt-ltb, ne-eqb}
 use lib.ListN.{getD}
 use Rattle.fields.specs.Fields.{fieldAt, Bytes, WellFormed}
 use Rattle.grammar_image.specs.GrammarImage.{terminalCount, nonterminalCount, entryByte, numberBound, symbolAt, symbolFields}

@@ -1,13 +1,12 @@
 -- Where the header and the records of a well-formed grammar image lie: what its readers ask for.
-use mathlib.Core.Path.{_≡_}
-use mathlib.Core.List.{List, [], _∷_, _++_}
+use mathlib.Core.List.{List, _++_}
 use Prim.Native.Nat.{ℕ, _+_, _*_, _<_, _≤_}
 use native.Mathlib.Omega.{arith}
 use borrow.Author.Tests.{eqb-true, leb-true}
 use lib.Dec.{leb}
 use lib.ListN.{length}
 use Rattle.rules.specs.Limits.{maxRow}
-use Rattle.fields.specs.Fields.{fieldAt, WellFormed, Field, each}
+use Rattle.fields.specs.Fields.{fieldAt, WellFormed, each}
 use Rattle.grammar_image.specs.GrammarImage.{productionCount, entryCount, entryByte, firstOf, countOf, startsAt}
 use Rattle.grammar_image.specs.GrammarImage.{countFields, offsetFields, productionFields, productionsFields, symbolsFields, grammarFields}
 use Rattle.fields.proofs.Formed.{formed-parts, each-formed, both-true}

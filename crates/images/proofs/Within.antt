@@ -1,9 +1,7 @@
 -- What a node's production is in images that were tested, and where its row lies.
-use mathlib.Core.Path.{_≡_}
 use mathlib.Core.List.{List}
-use Prim.Native.Nat.{ℕ, _+_, _*_, _<_, _≤_}
+use Prim.Native.Nat.{ℕ, _+_, _<_, _≤_}
 use native.Mathlib.Omega.{arith}
-use lib.ListN.{length}
 use Rattle.grammar_image.specs.GrammarImage.{productionCount, entryCount, ProductionIs}
 use Rattle.grammar_image.specs.declared.Production.{Production}
 use Rattle.grammar_image.proofs.Within.{row-within}

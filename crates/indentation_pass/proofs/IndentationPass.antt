@@ -1,11 +1,11 @@
 -- The steps of the indentation pass, each a law: a node's number is written before those of its row, and those of a child before the rest of the row.
 use mathlib.Core.Path.{_≡_, refl, sym}
 use mathlib.Core.List.{List, [], _∷_, _++_, append-assoc}
-use Prim.Native.Nat.{ℕ, _+_, _*_, _-_, _<_, _≤_, min}
+use Prim.Native.Nat.{ℕ, _+_, _*_, _<_, _≤_, min}
 use native.Mathlib.Omega.{arith}
 use lib.ListN.{length, getD, set, length-append}
 use Rattle.rules.specs.Grammar.{Symbol, Token}
-use Rattle.rules.specs.Tree.{Tree, node, Row, token, child}
+use Rattle.rules.specs.Tree.{Tree, node, Row}
 use Rattle.rules.specs.Derivation.{nodes, rowNodes, tokens}
 use Rattle.rules.specs.Choice.{flat, flats}
 use Rattle.rules.specs.Stored.{unbounded}

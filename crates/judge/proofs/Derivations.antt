@@ -23,7 +23,7 @@ use Rattle.token_image.specs.TokenImage.{tokensOf, tokenFields}
 use Rattle.tree_image.specs.TreeImage.{nodeCount, nodesOf, treeFields}
 use Rattle.derive.specs.Images.{walkIn}
 use Rattle.images.specs.Formed.{Formed}
-use Rattle.judge.specs.Judged.{Lists, Entries, entriesOf, room, tests, firstRefusal, enough, derivation, Fitting, DerivesIn, Judged}
+use Rattle.judge.specs.Judged.{Lists, Entries, entriesOf, room, tests, firstRefusal, enough, derivation, DerivesIn, Judged}
 use Rattle.judge.proofs.Passed.{all-passed}
 
 -- two outcomes that its contract allows are equal

@@ -1,7 +1,7 @@
 -- The three ways out of the check: a refusal before anything is written, an empty set at the root, and acceptance. Each is the verdict on the tree that the nodes derive.
 use mathlib.Core.Path.{_≡_, refl, sym, ap, _∙_}
 use mathlib.Core.List.{List, [], append-nil}
-use Prim.Native.Nat.{ℕ, _*_, _-_, _<_, _≤_}
+use Prim.Native.Nat.{ℕ, _*_, _<_, _≤_}
 use native.Mathlib.Nat.{zero-add}
 use native.Mathlib.Omega.{arith}
 use lib.ListN.{length}

@@ -1,12 +1,12 @@
 -- The steps of the set pass, each a law: what a node's row leaves is its own set, and what a token or a child leaves is met before the rest of the row.
 use mathlib.Core.Path.{_≡_, refl, sym, ap, _∙_}
 use mathlib.Core.List.{List, [], _∷_}
-use Prim.Native.Nat.{ℕ, _+_, _*_, _-_, _<_, _≤_}
+use Prim.Native.Nat.{ℕ, _+_, _*_, _<_, _≤_}
 use native.Mathlib.Omega.{arith}
 use lib.ListN.{length, getD, length-append}
 use Rattle.fields.specs.Images.{images}
 use Rattle.rules.specs.Grammar.{Symbol}
-use Rattle.rules.specs.Tree.{Tree, node, Row, token, child}
+use Rattle.rules.specs.Tree.{Tree, node, Row, token}
 use Rattle.rules.specs.Derivation.{nodes, rowNodes, tokens, rowTokens}
 use Rattle.rules.specs.Stored.{unbounded}
 use Rattle.rules.specs.Interval.{allSet, meet, tokenLeaves, childLeaves, setOf, rowSet, setsOf, rowSets}

@@ -1,8 +1,7 @@
 -- `grammar_image::sixteen_over` meets its contract: where the sum is 0, each entry that was added breaks its rules by nothing.
-use borrow.Author.Needs.{needs}
 use native.Mathlib.Omega.{arith}
 use mathlib.Core.Path.{_≡_}
-use Prim.Native.Nat.{ℕ, _+_, _*_, _-_, _<_, _≤_}
+use Prim.Native.Nat.{_*_, _-_, _≤_}
 use denote.Ref.{now}
 use Rattle.fields.specs.Fields.{eachFrom, WellFormed}
 use Rattle.grammar_image.specs.GrammarImage.{symbolFields}

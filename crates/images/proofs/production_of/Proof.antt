@@ -1,7 +1,5 @@
 -- `images::production_of` meets its contract: the node's record lies within the tree image, and that of its production within the grammar image.
-use mathlib.Core.Path.{sym}
 use denote.Ref.{now}
-use Rattle.grammar_image.specs.GrammarImage.{productionCount}
 use Rattle.grammar_image.proofs.Within.{production-within}
 use Rattle.tree_image.proofs.Within.{node-within}
 use Rattle.images.proofs.Within.{production-below}
