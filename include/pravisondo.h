@@ -37,6 +37,10 @@ extern "C" {
  * for no upper bound. An empty set is stored as low 1, high 0, and in no other set is high below low. */
 #define PRAVISONDO_NO_UPPER_BOUND 4294967295u
 
+/* What a token has for its column, 0 to 4,095, where the lexer is to ignore its indentation, as on a joined line. Such a
+ * token satisfies >, >= and free against every indentation, and = against none. */
+#define PRAVISONDO_NO_COLUMN 65535u
+
 /* The numbers of the answers. D is the number of nodes of the tree image and K that of tokens of the token image;
  * nodes, tokens and bytes are counted from 0. Where nothing else is said, nothing is written. */
 enum {
@@ -59,7 +63,7 @@ enum {
                                       entries of `sets` */
     PRAVISONDO_ENTRIES = 13,       /* packers: over 4,096 entries, an empty tree list, or two lists of unequal length.
                                       Place: 0 */
-    PRAVISONDO_COLUMN = 14         /* token packer: a column above 4,095. Place: the index of the first such */
+    PRAVISONDO_COLUMN = 14         /* token packer: a column of 4,096 to 65,534. Place: the index of the first such */
 };
 
 /* Every call gives a number, a place and a length as one answer of 64 bits. These three take it apart. */
@@ -120,8 +124,9 @@ uint64_t pravisondo_check_tree(const uint8_t *image, size_t length, uint16_t pro
 uint64_t pravisondo_pack_tree(const uint16_t *productions, size_t count, uint8_t *output, size_t room);
 
 /* Packs the tokens of a sheet, terminals[k] at columns[k], as a token image: 6 + 4 * count bytes at the start of the
- * output, which has room for `room` bytes. Number 0, 13, 14 or 4, tested as 13, then 14, then 4. On 0 the length is
- * the image's and later bytes are not written; on a refusal nothing is. Terminal numbers are not judged. */
+ * output, which has room for `room` bytes. A column is 0 to 4,095, or PRAVISONDO_NO_COLUMN. Number 0, 13, 14 or 4,
+ * tested as 13, then 14, then 4. On 0 the length is the image's and later bytes are not written; on a refusal nothing
+ * is. Terminal numbers are not judged. */
 uint64_t pravisondo_pack_tokens(const uint16_t *terminals, size_t terminals_count,
                                 const uint16_t *columns, size_t columns_count,
                                 uint8_t *output, size_t room);

@@ -5,6 +5,7 @@
 - What people read who do not prove, the code with its contracts, the definitions and the desk's conditions, fits
   120 columns.
 - A field is read by its byte in the crates of the images alone: all else reads images by a record's number.
+- The number that stands for no column has its name once in the definitions and once in the code.
 """
 
 import pathlib
@@ -39,9 +40,17 @@ def readers_by_byte():
             yield f"{path.relative_to(CRATES)} reads an image by a byte"
 
 
+def no_column():
+    for pattern, comment in (("*/src/**/*.rt", "//"), ("*/specs/**/*.antt", "--")):
+        lines = [line.split(comment)[0] for path in files(pattern) for line in path.read_text().splitlines()]
+        places = sum(len(re.findall(r"\b65535\b", line)) for line in lines)
+        if places != 1:
+            yield f"65535 stands {places} times in crates/{pattern}"
+
+
 def main():
     passed = failed = 0
-    for check in (wide_lines, readers_by_byte):
+    for check in (wide_lines, readers_by_byte, no_column):
         found = list(check())
         print(*found, sep="\n", end="\n" if found else "")
         failed += bool(found)

@@ -3,13 +3,15 @@
 use mathlib.Core.Path.{_≡_}
 use mathlib.Core.Logic.{_⊎_}
 use mathlib.Core.List.{List, map}
-use Prim.Native.Nat.{ℕ, _+_, _*_, _<_, _≤_}
+use Prim.Native.Nat.{ℕ, _+_, _-_, _*_, _<_, _≤_}
 use lib.ListN.{length, getD, take, drop}
-use Rattle.rules.specs.Limits.{maxIndentation}
+use Rattle.rules.specs.Limits.{maxDepth, maxIndentation}
 use Rattle.rules.specs.Derivation.{Right}
 use Rattle.rules.specs.Tree.{Tree}
 use Rattle.rules.specs.Walk.{Answer, answer}
-use Rattle.rules.specs.Grammar.{Production}
+use Rattle.rules.specs.Grammar.{Production, ColumnsUpTo}
+use Rattle.rules.specs.Relation.{rise}
+use Rattle.rules.specs.NoColumn.{NoColumnAtEqual}
 use Rattle.rules.specs.Choice.{Choice, Laid, InSet, Least}
 use Rattle.rules.specs.Stored.{Stored, SetOf, HighestEmpty, Shape, Empty, subtrees}
 use Rattle.rules.proofs.Shapes.{lemma-4}
@@ -120,6 +122,16 @@ module _ {s : Images} {old new : Lists} {a : Answer} (j : Judged s old a new) wh
       (C : Choice) → Laid G (d .derives .tree) C → ⊥
   refused-none = meaning.refused-unlaid j
 
-  -- "no entry exceeds 4,350"
+  -- for the makers: a tree in which a token without a column stands at = anywhere is not accepted, whatever the other
+  -- columns are
+  pub no-column-refused : (d : DerivesIn s) → NoColumnAtEqual G (d .derives .tree) → a .number ≡ 0 → ⊥
+  no-column-refused = meaning.no-column-refused j
+
+  -- no entry exceeds the greatest column of the tokens that have one by more than the depth allows
+  pub indentations-near : a .number ≡ 0 → (M : ℕ) → ColumnsUpTo M (tokensOf (s .tokens)) →
+      (n : ℕ) → n < D → getD (new .indentations) n 0 ≤ M + rise * (maxDepth - 1)
+  indentations-near = meaning.zero-near j
+
+  -- so "no entry exceeds 4,350"
   pub indentations-small : a .number ≡ 0 → (n : ℕ) → n < D → getD (new .indentations) n 0 ≤ maxIndentation
   indentations-small = meaning.zero-small j

@@ -3,7 +3,7 @@ use mathlib.Core.Path.{_≡_, refl, sym, ap, _∙_}
 use mathlib.Core.Logic.{_⊎_, ⊎-elim}
 use mathlib.Core.Bool.{Bool, true, false}
 use mathlib.Core.List.{List}
-use Prim.Native.Nat.{ℕ, _+_, _*_, _<_, _≤_}
+use Prim.Native.Nat.{ℕ, _+_, _-_, _*_, _<_, _≤_}
 use native.Mathlib.Omega.{arith}
 use lib.Dec.{eqb}
 use lib.ListN.{length, getD, take, drop, List·getD-append}
@@ -11,7 +11,9 @@ use lib.Seq.{take-at, drop-at}
 use borrow.Author.Tests.{eqb-true, eqb-false}
 use Rattle.fields.specs.Images.{Images}
 use Rattle.rules.specs.Limits.{maxColumn, maxDepth, maxIndentation}
-use Rattle.rules.specs.Grammar.{Production, Token}
+use Rattle.rules.specs.Grammar.{Production, Token, ColumnsUpTo}
+use Rattle.rules.specs.Relation.{rise}
+use Rattle.rules.specs.NoColumn.{NoColumnAtEqual}
 use Rattle.rules.specs.Derivation.{nodes, depth, Derives}
 use Rattle.rules.specs.Walk.{Answer, answer}
 use Rattle.rules.specs.Choice.{Choice, Laid, Least}
@@ -20,6 +22,7 @@ use Rattle.rules.specs.Verdict.{Verdict, refused, empty, accepted}
 use Rattle.rules.proofs.Unique.{one-tree}
 use Rattle.rules.proofs.Subtrees.{length-subtrees}
 use Rattle.rules.proofs.Least.{least-length}
+use Rattle.rules.proofs.NoColumn.{no-column-unlaid}
 use Rattle.rules.proofs.OneLayout.{stored-length, stored-at}
 use Rattle.rules.proofs.Verdicts as verdicts
 use Rattle.grammar_image.specs.GrammarImage.{terminalCount, startNonterminal, productionAt}
@@ -187,11 +190,17 @@ module _ {s : Images} {old new : Lists} {a : Answer} (j : Judged s old a new) wh
   pub refused-unlaid : Fitting s (entriesOf old) → (d : DerivesIn s) → (a .number ≡ 0 → ⊥) → (C : Choice) → Laid G (d .derives .tree) C → ⊥
   refused-unlaid f d other = verdicts.none-chosen _ _ _ _ _ (j .verdict) (none-refuses s _ f d) other (d .derives)
 
-  -- no indentation is above the limit
-  pub zero-small : a .number ≡ 0 → (n : ℕ) → n < D → getD newIndentations n 0 ≤ maxIndentation
-  zero-small z n h =
-      let both = zero-passed z in
-      let d = both .1 in
-      let columns = columns-kept (terminalCount grammar) tokens (both .0 .tokensFormed) in
+  -- a token without a column at =: no choice exists, so it is not accepted
+  pub no-column-refused : (d : DerivesIn s) → NoColumnAtEqual G (d .derives .tree) → a .number ≡ 0 → ⊥
+  no-column-refused d h z = let l = least z d in no-column-unlaid G (d .derives .tree) h (l .choice) (l .laid)
+
+  -- no indentation is above the greatest column of the tokens that have one by more than the depth allows
+  pub zero-near : a .number ≡ 0 → (M : ℕ) → ColumnsUpTo M (tokensOf tokens) → (n : ℕ) → n < D → getD newIndentations n 0 ≤ M + rise * (maxDepth - 1)
+  zero-near z M columns n h =
+      let d = zero-passed z .1 in
       let deep : (e : Derives G (startNonterminal grammar) (nodesOf tree) (tokensOf tokens)) → depth (e .tree) ≤ maxDepth = λ e. rw (one-tree G (startNonterminal grammar) (nodesOf tree) (tokensOf tokens) e (d .derives)) (d .deep) in
-      rw (j .indentationsAfter, List·getD-append (j .indentations) _ 0 n (omega (arith, many z d))) (verdicts.small _ _ _ _ _ (j .verdict) maxColumn maxDepth columns deep n)
+      rw (j .indentationsAfter, List·getD-append (j .indentations) _ 0 n (omega (arith, many z d))) (verdicts.small _ _ _ _ _ (j .verdict) M maxDepth columns deep n)
+
+  -- so none is above the limit
+  pub zero-small : a .number ≡ 0 → (n : ℕ) → n < D → getD newIndentations n 0 ≤ maxIndentation
+  zero-small z = zero-near z maxColumn (columns-kept (terminalCount grammar) tokens (zero-passed z .0 .tokensFormed))

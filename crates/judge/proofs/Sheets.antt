@@ -1,4 +1,4 @@
--- Every starred trial sheet has the verdict of its row: a refused one by running the walk, any other by giving its tree and running the two passes over it.
+-- Every trial sheet has the verdict of its row: a refused one by running the walk, any other by giving its tree and running the two passes over it.
 use mathlib.Core.Path.{_≡_, refl}
 use mathlib.Core.Bool.{false}
 use mathlib.Core.List.{[]}
@@ -8,7 +8,7 @@ use lib.Dec.{eqb}
 use lib.ListN.{length}
 use borrow.Author.Tests.{eqb-false}
 use Rattle.rules.specs.Limits.{maxDepth}
-use Rattle.rules.specs.Grammar.{ColumnsUpTo}
+use Rattle.rules.specs.Grammar.{noColumn}
 use Rattle.rules.specs.Tree.{Tree, node, end, token, child}
 use Rattle.rules.specs.Derivation.{Right, nodes, tokens, depth, Derives}
 use Rattle.rules.specs.Choice.{flat}
@@ -16,8 +16,9 @@ use Rattle.rules.specs.Interval.{below, leaves, childLeaves, tokenLeaves, meet,
 use Rattle.rules.specs.Stored.{unbounded}
 use Rattle.rules.specs.Walk.{answer, andThen, tokenDue, nodeMet, symbolDue, rowDue, nodeDue, walkDone, walk}
 use Rattle.rules.specs.Verdict.{refused}
-use Rattle.judge.specs.Sheets.{trialGrammar, day, hour, item, Sheet, trial, starred, SheetJudged, Each, done, _also_}
+use Rattle.judge.specs.Sheets.{trialGrammar, day, hour, item, Sheet, trial, starred, joined, SheetJudged, Each, done, _also_}
 use Rattle.rules.proofs.Refusals.{derives-answered}
+use Rattle.rules.proofs.Shapes.{greatest, columns-greatest}
 use Rattle.rules.proofs.Verdicts.{verdict-empty, verdict-accepted}
 
 -- a row that the walk refuses
@@ -32,13 +33,13 @@ module _ (T : Tree) (right : Right trialGrammar T 0) where
   answered : depth T ≤ maxDepth → walk trialGrammar (nodes T) (tokens T) 0 .number ≡ 0
   answered deep = rw (derives-answered trialGrammar 0 (nodes T) (tokens T) (record { derives = derives; deep = deep }))
 
-  empty-judged : (depth T ≤ maxDepth) × ColumnsUpTo 5 (tokens T) × (setOf trialGrammar unbounded T .high < setOf trialGrammar unbounded T .low) →
+  empty-judged : (depth T ≤ maxDepth) × (greatest (tokens T) ≤ noColumn) × (setOf trialGrammar unbounded T .high < setOf trialGrammar unbounded T .low) →
       SheetJudged (trial (tokens T) (nodes T) (answer 12 (highestEmpty (setsOf trialGrammar unbounded T) (length (nodes T)))) [])
-  empty-judged h = record { sets = setsOf trialGrammar unbounded T; verdict = verdict-empty trialGrammar 0 (nodes T) (tokens T) _ 5 (omega arith) (answered (h .0)) derives (h .1) (h .2) }
+  empty-judged h = record { sets = setsOf trialGrammar unbounded T; verdict = verdict-empty trialGrammar 0 (nodes T) (tokens T) _ noColumn (omega arith) (answered (h .0)) derives (columns-greatest noColumn (tokens T) (h .1)) (h .2) }
 
-  accepted-judged : (depth T ≤ maxDepth) × ColumnsUpTo 5 (tokens T) × (setOf trialGrammar unbounded T .low ≤ setOf trialGrammar unbounded T .high) →
+  accepted-judged : (depth T ≤ maxDepth) × (greatest (tokens T) ≤ noColumn) × (setOf trialGrammar unbounded T .low ≤ setOf trialGrammar unbounded T .high) →
       SheetJudged (trial (tokens T) (nodes T) (answer 0 0) (flat (leastChoice trialGrammar unbounded T (setOf trialGrammar unbounded T .low))))
-  accepted-judged h = record { sets = setsOf trialGrammar unbounded T; verdict = verdict-accepted trialGrammar 0 (nodes T) (tokens T) _ 5 (omega arith) (answered (h .0)) derives (h .1) (h .2) }
+  accepted-judged h = record { sets = setsOf trialGrammar unbounded T; verdict = verdict-accepted trialGrammar 0 (nodes T) (tokens T) _ noColumn (omega arith) (answered (h .0)) derives (columns-greatest noColumn (tokens T) (h .1)) (h .2) }
 
 -- a node of each production, with the column of its token
 abbrev onDay : ℕ → Tree → Tree
@@ -68,7 +69,7 @@ oneHour d h = onDay d (then (atHour h noItems) noHours)
 
 -- each row of the table has its verdict
 pub starred-judged : Each SheetJudged starred
-unfolding starred trialGrammar walk walkDone nodeDue nodeMet rowDue symbolDue tokenDue andThen Right nodes tokens depth ColumnsUpTo setOf setsOf tokenLeaves childLeaves leaves below meet highestEmpty leastChoice least flat
+unfolding starred trialGrammar walk walkDone nodeDue nodeMet rowDue symbolDue tokenDue andThen Right nodes tokens depth greatest setOf setsOf tokenLeaves childLeaves leaves below meet highestEmpty leastChoice least flat
 starred-judged =
     accepted-judged (treeA 1 3 5 3) (omega arith) (omega arith)
     also accepted-judged (treeA 1 3 4 3) (omega arith) (omega arith)
@@ -84,4 +85,13 @@ starred-judged =
     also walk-judged refl refl refl
     also walk-judged refl refl refl
     also walk-judged refl refl refl
+    also done
+
+-- and so has each of the sheets with a token without a column
+pub joined-judged : Each SheetJudged joined
+unfolding joined trialGrammar walk walkDone nodeDue nodeMet rowDue symbolDue tokenDue andThen Right nodes tokens depth greatest setOf setsOf tokenLeaves childLeaves leaves below meet highestEmpty leastChoice least flat
+joined-judged =
+    accepted-judged (treeA 1 3 noColumn 3) (omega arith) (omega arith)
+    also empty-judged (treeA 1 noColumn 5 3) (omega arith) (omega arith)
+    also empty-judged (treeA noColumn 3 5 3) (omega arith) (omega arith)
     also done

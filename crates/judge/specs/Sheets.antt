@@ -2,7 +2,7 @@
 use mathlib.Core.List.{List, [], _∷_}
 use Prim.Native.Nat.{ℕ}
 use lib.ListN.{getD}
-use Rattle.rules.specs.Grammar.{Symbol, Production, Token}
+use Rattle.rules.specs.Grammar.{Symbol, Production, Token, noColumn}
 use Rattle.rules.specs.Walk.{Answer, answer, walk}
 use Rattle.rules.specs.Verdict.{Verdict}
 
@@ -77,6 +77,14 @@ starred =
     ∷ trial (hour 1 ∷ []) (0 ∷ 2 ∷ []) (answer 7 0) []
     ∷ trial (day 1 ∷ hour 3 ∷ []) (0 ∷ 2 ∷ []) (answer 11 1) []
     ∷ trial (day 1 ∷ hour 3 ∷ []) (0 ∷ 2 ∷ 2 ∷ []) (answer 10 2) []
+    ∷ []
+
+-- A with a token without a column: the item, which stands at ≥, then an hour and the day, which stand at =
+unfoldable pub joined : List Sheet
+joined =
+    trial (day 1 ∷ hour 3 ∷ item noColumn ∷ hour 3 ∷ []) treeA (answer 0 0) (1 ∷ 3 ∷ 3 ∷ 4 ∷ 4 ∷ 3 ∷ 3 ∷ 4 ∷ 3 ∷ [])
+    ∷ trial (day 1 ∷ hour noColumn ∷ item 5 ∷ hour 3 ∷ []) treeA (answer 12 2) []
+    ∷ trial (day noColumn ∷ hour 3 ∷ item 5 ∷ hour 3 ∷ []) treeA (answer 12 0) []
     ∷ []
 
 -- answer and indentations of a row are the verdict on its sheet, with some sets

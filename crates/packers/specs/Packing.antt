@@ -5,7 +5,7 @@ use mathlib.Core.List.{List, [], _∷_, _++_}
 use Prim.Native.Nat.{ℕ, _+_, _*_, _%_, _/_}
 use lib.Dec.{leb, eqb}
 use lib.ListN.{length, getD, drop}
-use Rattle.rules.specs.Limits.{maxNodes, maxTokens, maxColumn}
+use Rattle.rules.specs.Limits.{maxNodes, maxTokens, columnAllowed}
 use Rattle.fields.specs.Fields.{Field, field, each, firstFault}
 use Rattle.fields.specs.declared.Checked.{Checked}
 use Rattle.fields.specs.declared.Checked.the-variants.{Good, Fault}
@@ -43,9 +43,9 @@ treeAnswer productions room =
     (intoRoom (6 + 2 * length productions) room)
     Entries
 
--- 14 is "a column above 4,095", its place the "index of the first such"
+-- 14 is "a column above 4,095" but for no column, its place the "index of the first such"
 unfoldable pub columnFields : List ℕ → List Field
-columnFields columns = each (length columns) (λ k. field k (leb (getD columns k 0) maxColumn) ∷ [])
+columnFields columns = each (length columns) (λ k. field k (columnAllowed (getD columns k 0)) ∷ [])
 
 abbrev pub pastColumns : Checked → Packed → Packed
 pastColumns Good answer = answer

@@ -2,7 +2,8 @@
 use mathlib.Core.Path.{_≡_}
 use Prim.Native.Nat.{ℕ, _+_, _-_, _<_, _≤_, max, min}
 use borrow.Author.Tests.{lt-ltb, le-ltb, eq-eqb, ne-eqb}
-use Rattle.rules.specs.Interval.{bounds, emptySet, allSet, below, leaves, childLeaves, meet, least}
+use Rattle.rules.specs.Grammar.{noColumn}
+use Rattle.rules.specs.Interval.{bounds, emptySet, allSet, below, leaves, childLeaves, tokenLeaves, meet, least}
 use Rattle.rules.specs.declared.relation.Set.{Set}
 
 module _ (top high : ℕ) where
@@ -42,6 +43,19 @@ module _ (top r : ℕ) (S : Set) where
   pub child-some : S .low ≤ S .high → childLeaves top r S ≡ leaves top r S
   unfolding childLeaves
   child-some h = rw (le-ltb (S .high) (S .low) h)
+
+module _ (top r column : ℕ) where
+  pub token-equal : column ≡ noColumn → r ≡ 0 → tokenLeaves top r column ≡ emptySet
+  unfolding tokenLeaves
+  token-equal none e = rw (eq-eqb column noColumn none, eq-eqb r 0 e)
+
+  pub token-other : column ≡ noColumn → (r ≡ 0 → ⊥) → tokenLeaves top r column ≡ allSet top
+  unfolding tokenLeaves
+  token-other none a = rw (eq-eqb column noColumn none, ne-eqb r 0 a)
+
+  pub token-held : (column ≡ noColumn → ⊥) → tokenLeaves top r column ≡ leaves top r (bounds column column)
+  unfolding tokenLeaves
+  token-held has = rw (ne-eqb column noColumn has)
 
 module _ (S T : Set) {low high : ℕ} (lows : low ≡ max (S .low) (T .low)) (highs : high ≡ min (S .high) (T .high)) where
   pub meet-empty : high < low → meet S T ≡ emptySet

@@ -4,6 +4,7 @@ pub mod Complete
 pub mod Least
 pub mod Lists
 pub mod Meaning
+pub mod NoColumn
 pub mod OneLayout
 pub mod Prefix
 pub mod Refusals

@@ -5,7 +5,7 @@ use Prim.Native.Nat.{ℕ, _+_, _-_, _<_, _≤_, max, min}
 use native.Mathlib.Omega.{arith, min-cases}
 use lib.Dec.{ltb, eqb}
 use borrow.Author.Tests.{ltb-true, ltb-false, eqb-true, eqb-false}
-use Rattle.rules.specs.Grammar.{Token}
+use Rattle.rules.specs.Grammar.{Token, noColumn, HasColumn}
 use Rattle.rules.specs.Relation.{Holds, HoldsToken, rise}
 use Rattle.rules.specs.Interval.{bounds, emptySet, In, allSet, below, leaves, childLeaves, tokenLeaves, meet, least}
 use Rattle.rules.specs.declared.relation.Set.{Set}
@@ -115,16 +115,25 @@ module _ (top : ℕ) where
       (λ e h. left-least r i S e (leaves-left r i S h))
 
   -- what a token's column leaves its parent is every number that the relation allows
-  pub token-up : (r i : ℕ) (t : Token) → t .column < top → HoldsToken r i t → In top (tokenLeaves top r (t .column)) i
+  pub token-up : (r i : ℕ) (t : Token) → (HasColumn t → t .column < top) → HoldsToken r i t → In top (tokenLeaves top r (t .column)) i
   unfolding tokenLeaves HoldsToken
-  token-up r i t f k = leaves-up r i (t .column) (bounds (t .column) (t .column)) (omega arith) k
+  token-up r i t f k =
+      by-equal (λ (S : Set). In top S i) (t .column) noColumn
+      (λ none. by-equal (λ (S : Set). In top S i) r 0 (λ e. absurd (k .1 none e)) (λ e. omega arith))
+      (λ has. let room = f has in leaves-up r i (t .column) (bounds (t .column) (t .column)) (omega arith) (k .0 has))
 
   -- and no other
-  pub token-holds : (r i : ℕ) (t : Token) → t .column < top → In top (tokenLeaves top r (t .column)) i → HoldsToken r i t
+  pub token-holds : (r i : ℕ) (t : Token) → 1 ≤ top → (HasColumn t → t .column < top) → In top (tokenLeaves top r (t .column)) i → HoldsToken r i t
   unfolding tokenLeaves HoldsToken Holds
-  token-holds r i t f h =
+  token-holds r i t one f =
+      by-equal (λ (S : Set). In top S i → HoldsToken r i t) (t .column) noColumn
+      (λ none. by-equal (λ (S : Set). In top S i → HoldsToken r i t) r 0
+      (λ e h. absurd (omega (arith, h .1 (omega arith))))
+      (λ e h. (λ has. absurd (has none), λ n z. e z)))
+      (λ has h.
+      let room = f has in
       let left = leaves-left r i (bounds (t .column) (t .column)) h in
-      (λ e. omega (arith, left .0 e, left .0 e .1 f), λ e. left .1 e f, λ e. left .2 e f)
+      (λ a. (λ e. omega (arith, left .0 e, left .0 e .1 room), λ e. left .1 e room, λ e. left .2 e room), λ n. absurd (has n)))
 
   -- `meet`: a number of both sets is in it
   pub meet-in : (i : ℕ) (S T : Set) → Fits top S → Fits top T → In top S i → In top T i → In top (meet S T) i
@@ -153,17 +162,20 @@ module _ (top : ℕ) where
     child-kept r S same upTo less = by-less P (S .high) (S .low) (λ e. none) (λ e. leaves-kept r S same upTo less)
 
     -- and of what a token's column leaves it
-    pub token-kept : (r column : ℕ) → P (bounds column column) → P (bounds 0 column) → (column < top → P (bounds 0 (column - 1))) → P (tokenLeaves top r column)
+    pub token-kept : (r column : ℕ) → ((column ≡ noColumn → ⊥) → P (bounds column column) × P (bounds 0 column) × (column < top → P (bounds 0 (column - 1)))) → P (tokenLeaves top r column)
     unfolding tokenLeaves
-    token-kept r column = leaves-kept r (bounds column column)
+    token-kept r column held =
+        by-equal P column noColumn
+        (λ e. by-equal P r 0 (λ z. none) (λ z. all))
+        (λ has. let h = held has in leaves-kept r (bounds column column) (h .0) (h .1) (h .2))
 
   -- and what fits below top leaves what fits
   module _ (one : 1 ≤ top) where
     pub child-fits : (r : ℕ) (S : Set) → Fits top S → Fits top (childLeaves top r S)
     child-fits r S f = child-kept (Fits top) (omega arith) (omega arith) r S f (omega arith) (omega arith)
 
-    pub token-fits : (r column : ℕ) → column ≤ top → Fits top (tokenLeaves top r column)
-    token-fits r column f = token-kept (Fits top) (omega arith) (omega arith) r column (omega arith) (omega arith) (omega arith)
+    pub token-fits : (r column : ℕ) → ((column ≡ noColumn → ⊥) → column ≤ top) → Fits top (tokenLeaves top r column)
+    token-fits r column f = token-kept (Fits top) (omega arith) (omega arith) r column (λ has. let room = f has in (omega arith, omega arith, omega arith))
 
     pub meet-fits : (S T : Set) → Fits top S → Fits top T → Fits top (meet S T)
     meet-fits S T f g = by-meet (Fits top) S T (λ e. omega arith) (λ e. omega arith)

@@ -2,9 +2,9 @@
 -- Below each of these the least numbers are a choice, and no choice has another number at the node.
 use mathlib.Core.Path.{_≡_, refl}
 use mathlib.Core.List.{List, [], _∷_, _++_}
-use Prim.Native.Nat.{ℕ, _<_}
+use Prim.Native.Nat.{ℕ, _<_, _≤_}
 use native.Mathlib.Omega.{arith}
-use Rattle.rules.specs.Grammar.{Symbol, Production, Token, ColumnsUpTo}
+use Rattle.rules.specs.Grammar.{Symbol, Production, Token, HasColumn, ColumnsUpTo}
 use Rattle.rules.specs.Tree.{Tree, node, Row, end, token, child}
 use Rattle.rules.specs.Derivation.{Right, RightRow, tokens, rowTokens}
 use Rattle.rules.specs.Choice.{Choice, given, Choices, none, next, root, Laid, LaidRow, InSet}
@@ -44,16 +44,16 @@ module _ (G : ℕ → Production) (top : ℕ) where
       up (given i Cs) h = below .up i Cs (omega arith) h
 
   module _ (row : Row) (s : Symbol) (ss : List Symbol) (S X : Set) (h : Fits top S) where
-    token-tells : (t : Token) → t .column < top → Fits top (tokenLeaves top (s .relation) (t .column)) →
+    token-tells : (t : Token) → 1 ≤ top → (HasColumn t → t .column < top) → Fits top (tokenLeaves top (s .relation) (t .column)) →
         RowTells row ss (meet S (tokenLeaves top (s .relation) (t .column))) X → RowTells (token t row) (s ∷ ss) S X
     unfolding LaidRow leastChoices
-    token-tells t room g rest = record {
+    token-tells t one room g rest = record {
       fits = rest .fits;
       up = λ i Cs l k. rest .up i Cs (meet-in top i S _ h g l (token-up top (s .relation) i t room (k .0))) (k .1);
       down = λ i l.
           let d = rest .down i l in
           let both = in-meet top i S _ h g (d .0) in
-          (both .0, (token-holds top (s .relation) i t room (both .1), d .1));
+          (both .0, (token-holds top (s .relation) i t one room (both .1), d .1));
     }
 
     child-tells : (T : Tree) → Tells T (setOf G top T) → Fits top (childLeaves top (s .relation) (setOf G top T)) →
@@ -85,8 +85,8 @@ module _ (G : ℕ → Production) (top : ℕ) where
       row-tells end (s ∷ ss) S f c h = absurd f
       row-tells (token t row) [] S f c h = absurd f
       row-tells (token t row) (s ∷ ss) S f c h =
-          let g = token-fits top (omega arith) (s .relation) (t .column) (omega arith) in
-          token-tells row s ss S _ h t (omega arith) g (row-tells row ss _ (f .2) (c .1) (meet-fits top (omega arith) S _ h g))
+          let g = token-fits top (omega arith) (s .relation) (t .column) (λ has. omega (arith, c .0 has)) in
+          token-tells row s ss S _ h t (omega arith) (λ has. omega (arith, c .0 has)) g (row-tells row ss _ (f .2) (c .1) (meet-fits top (omega arith) S _ h g))
       row-tells (child T row) [] S f c h = absurd f
       row-tells (child T row) (s ∷ ss) S f c h =
           let cs = columns-append M (tokens T) (rowTokens row) c in

@@ -4,7 +4,7 @@ use mathlib.Core.List.{List, [], _∷_, _++_}
 use Prim.Native.Nat.{ℕ, suc, _-_, _*_, _<_, _≤_, max, min}
 use native.Mathlib.Omega.{arith}
 use lib.ListN.{length, length-append}
-use Rattle.rules.specs.Grammar.{Symbol, Production, Token, ColumnsUpTo}
+use Rattle.rules.specs.Grammar.{Symbol, Production, Token, noColumn, ColumnsUpTo}
 use Rattle.rules.specs.Tree.{Tree, node, Row, end, token, child}
 use Rattle.rules.specs.Derivation.{Right, RightRow, nodes, rowNodes, tokens, rowTokens}
 use Rattle.rules.specs.Choice.{InSet}
@@ -49,9 +49,9 @@ module _ (top M : ℕ) (room : M < top) where
       less (one a b) l = initial refl (omega arith)
       less (initial a b) l = initial refl (omega arith)
 
-  token-shaped : (r column : ℕ) → column ≤ M → Shaped top M (tokenLeaves top r column)
+  token-shaped : (r column : ℕ) → ((column ≡ noColumn → ⊥) → column ≤ M) → Shaped top M (tokenLeaves top r column)
   token-shaped r column c =
-      token-kept top (Shaped top M) (no refl refl) (whole refl refl) r column (one refl c) (initial refl c) (λ l. initial refl (omega arith))
+      token-kept top (Shaped top M) (no refl refl) (whole refl refl) r column (λ has. let low = c has in (one refl low, initial refl low, λ l. initial refl (omega arith)))
 
   meet-shaped : (S T : Set) → Shaped top M S → Shaped top M T → Shaped top M (meet S T)
   meet-shaped S T x y = by-meet (Shaped top M) S T (λ e. no refl refl) (some x y)
@@ -163,14 +163,14 @@ module _ (G : ℕ → Production) where
         omega (arith, length-append (setsOf G top T) (rowSets G top row), length-append (nodes T) (rowNodes row), length-sets top T, length-row top row)
 
 -- the greatest column of a list of tokens
-unfoldable greatest : List Token → ℕ
+unfoldable pub greatest : List Token → ℕ
 greatest [] = 0
 greatest (t ∷ ts) = max (t .column) (greatest ts)
 
-columns-greatest : (M : ℕ) (ts : List Token) → greatest ts ≤ M → ColumnsUpTo M ts
+pub columns-greatest : (M : ℕ) (ts : List Token) → greatest ts ≤ M → ColumnsUpTo M ts
 unfolding ColumnsUpTo greatest
 columns-greatest M [] l = tt
-columns-greatest M (t ∷ ts) l = (omega arith, columns-greatest M ts (omega arith))
+columns-greatest M (t ∷ ts) l = (λ has. omega arith, columns-greatest M ts (omega arith))
 
 -- lemma 4 of document 000
 pub lemma-4 : (G : ℕ → Production) (T : Tree) (A : ℕ) → Right G T A → Shape (InSet G T)

@@ -1,6 +1,7 @@
 -- "The grammar rule": symbols, productions and tokens.
-use Prim.Native.Nat.{ℕ, _≤_}
+use mathlib.Core.Path.{_≡_}
 use mathlib.Core.List.{List, [], _∷_}
+use Prim.Native.Nat.{ℕ, _≤_}
 
 -- "Each symbol is a terminal or a nonterminal and carries one relation": kind 0 is a terminal, kind 1 a nonterminal
 pub record Symbol : Type 0 where
@@ -18,7 +19,17 @@ pub record Token : Type 0 where
   pub terminal : ℕ
   pub column : ℕ
 
--- every token's column is at most M
+-- ticket 1 of document 02: "Column 65,535 now means no column"
+abbrev pub noColumn : ℕ
+noColumn = 65535
+
+abbrev pub NoColumn : Token → Type 0
+NoColumn t = t .column ≡ noColumn
+
+abbrev pub HasColumn : Token → Type 0
+HasColumn t = NoColumn t → ⊥
+
+-- the column of every token that has one is at most M
 unfoldable pub ColumnsUpTo : ℕ → List Token → Type 0
 ColumnsUpTo M [] = Unit {0}
-ColumnsUpTo M (t ∷ ts) = (t .column ≤ M) × ColumnsUpTo M ts
+ColumnsUpTo M (t ∷ ts) = (HasColumn t → t .column ≤ M) × ColumnsUpTo M ts

@@ -5,7 +5,7 @@ use mathlib.Core.List.{List, [], _∷_, _++_}
 use Prim.Native.Nat.{ℕ, zero, suc, _+_, _*_, _-_, _<_, _≤_, max, min}
 use lib.Dec.{ltb, eqb}
 use lib.ListN.{getD}
-use Rattle.rules.specs.Grammar.{Symbol, Production}
+use Rattle.rules.specs.Grammar.{Symbol, Production, noColumn}
 use Rattle.rules.specs.Tree.{Tree, node, Row, end, token, child}
 use Rattle.rules.specs.Choice.{Choice, given, Choices, none, next}
 use Rattle.rules.specs.declared.relation.Set.{Set}
@@ -38,9 +38,9 @@ module _ (top : ℕ) where
   unfoldable pub childLeaves : ℕ → Set → Set
   childLeaves r S = cond (ltb (S .high) (S .low)) emptySet (leaves r S)
 
-  -- what a token's column leaves its parent
+  -- what a token's column leaves its parent; without a column = leaves nothing and any other relation all
   unfoldable pub tokenLeaves : ℕ → ℕ → Set
-  tokenLeaves r column = leaves r (bounds column column)
+  tokenLeaves r column = cond (eqb column noColumn) (cond (eqb r 0) emptySet allSet) (leaves r (bounds column column))
 
 -- the numbers that are in both sets
 unfoldable pub meet : Set → Set → Set

@@ -4,6 +4,7 @@ pub mod Derivation
 pub mod Grammar
 pub mod Interval
 pub mod Limits
+pub mod NoColumn
 pub mod Refusals
 pub mod Relation
 pub mod Stored

@@ -1,5 +1,6 @@
 // The relation step: what a child leaves its parent, and the least that a parent leaves its child.
 // But for the field rule of the grammar image, no other code looks at a relation's number.
+use crate::NO_COLUMN;
 ghost use mathlib.Core.Path.{_≡_};
 ghost use Prim.Native.Nat.{max, min};
 ghost use Rattle.rules.specs.Stored.{unbounded};
@@ -75,6 +76,12 @@ pub fn child_leaves(relation: u8, set: Set) -> Set
 pub fn token_leaves(relation: u8, column: u16) -> Set
     ensures { λ r. ⌜ r ≡ tokenLeaves unbounded relation column ⌝ }
 {
+    if column == NO_COLUMN {
+        if relation == 0 {
+            return Set { low: 1, high: 0 };
+        }
+        return all();
+    }
     leaves(
         relation,
         Set {

@@ -1,11 +1,11 @@
 -- "Token image. Bytes 0: count K, 0 to 4,096. 2: offset, 6. 4: total length, 6 + 4K, also the real length. Each token:
--- terminal (below T), column (0 to 4,095)."
+-- terminal (below T), column (0 to 4,095)", or 65,535, "no column".
 use mathlib.Core.Path.{_≡_}
 use mathlib.Core.List.{List, [], _∷_, _++_}
 use Prim.Native.Nat.{ℕ, _+_, _*_}
 use lib.Dec.{leb, ltb, eqb}
 use lib.ListN.{length}
-use Rattle.rules.specs.Limits.{maxTokens, maxColumn}
+use Rattle.rules.specs.Limits.{maxTokens, columnAllowed}
 use Rattle.rules.specs.Grammar.{Token}
 use Rattle.fields.specs.Fields.{fieldAt, Field, field, each, list}
 use Rattle.token_image.specs.declared.Token.{Token as TokenRead}
@@ -40,7 +40,7 @@ headerFields image =
 unfoldable pub recordFields : ℕ → List ℕ → ℕ → List Field
 recordFields T image k =
     field (6 + 4 * k) (ltb (fieldAt image (6 + 4 * k)) T)
-    ∷ field (6 + 4 * k + 2) (leb (fieldAt image (6 + 4 * k + 2)) maxColumn)
+    ∷ field (6 + 4 * k + 2) (columnAllowed (fieldAt image (6 + 4 * k + 2)))
     ∷ []
 
 unfoldable pub recordsFields : ℕ → List ℕ → List Field

@@ -1,8 +1,8 @@
 // The token image: its check, its count and its tokens by number.
 use fields::Checked;
 use fields::field_at;
-use rules::COLUMN;
 use rules::TOKENS;
+use rules::column_allowed;
 ghost use mathlib.Core.Path.{_≡_};
 ghost use Prim.Native.Nat.{_+_, _*_, _<_, _≤_};
 ghost use lib.ListN.{length, getD};
@@ -78,7 +78,7 @@ fn token_keeps(image: &[u8], terminals: u16, k: usize, f: usize) -> bool
     let value = field_at(image, 6 + 4 * k + 2 * f);
     match f {
         0 => value < terminals,
-        _ => value <= COLUMN,
+        _ => column_allowed(value),
     }
 }
 

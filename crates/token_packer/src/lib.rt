@@ -3,8 +3,8 @@ use fields::Checked;
 use packers::Packed;
 use packers::put;
 use packers::put_header;
-use rules::COLUMN;
 use rules::TOKENS;
+use rules::column_allowed;
 ghost use mathlib.Core.Path.{_≡_};
 ghost use mathlib.Core.List.{_++_};
 ghost use Prim.Native.Nat.{_+_, _*_, _≤_};
@@ -13,13 +13,13 @@ ghost use Rattle.rules.specs.Limits.{maxTokens};
 ghost use Rattle.fields.specs.Fields.{firstFault};
 ghost use Rattle.packers.specs.Packing.{columnFields, tokenImage, tokenAnswer, TokensPacked};
 
-// The first column above the greatest, by its index, of no more columns than a sheet has tokens.
+// The first column that is not allowed, by its index, of no more columns than a sheet has tokens.
 fn check_columns(columns: &[u16]) -> Checked
     requires { ⌜ length (now columns) ≤ maxTokens ⌝ }
     ensures { λ r. ⌜ r ≡ firstFault (columnFields (now (columns .entry))) ⌝ }
 {
     for k in 0..columns.len() {
-        if columns[k] > COLUMN {
+        if !column_allowed(columns[k]) {
             return Checked::Fault(k as u32);
         }
     }
@@ -65,7 +65,7 @@ fn write_tokens(terminals: &[u16], columns: &[u16], out: &mut [u8])
 
 // Packs a list of terminals and one of their columns as a token image at the start of the output.
 // Refused, and then nothing is written: lists of unequal length or over the greatest number of
-// tokens; a column above the greatest; too little room.
+// tokens; a column that is not allowed; too little room.
 pub fn pack_tokens(terminals: &[u16], columns: &[u16], out: &mut [u8]) -> Packed
     ensures { λ r. ⌜ TokensPacked (now (terminals .entry)) (now (columns .entry)) (now (out .entry))
         r

@@ -22,6 +22,9 @@ add-field-at-2 c = search needs
 field-at-requires : tie.Need-field-at-requires
 field-at-requires c κs = search needs
 
+column-allowed-requires : tie.Need-column-allowed-requires
+column-allowed-requires c κs = search needs
+
 returns : tie.Need-returns
 unfolding recordFields
 returns c =
@@ -33,8 +36,8 @@ returns c =
 returns-2 : tie.Need-returns-2
 unfolding recordFields
 returns-2 c =
-    let a = c .before .before .before .args in
-    let which : a .f ≡ 1 = omega (arith, c .match .rest .1) in
+    let a = c .before .before .before .before .args in
+    let which : a .f ≡ 1 = omega (arith, c .before .match .rest .1) in
     let at : 6 + 4 * a .k + 2 * a .f ≡ 6 + 4 * a .k + 2 = omega arith in
     rw which (cc)
 
@@ -47,5 +50,6 @@ token-keeps-spec =
     mul-field-at-2
     add-field-at-2
     field-at-requires
+    column-allowed-requires
     returns
     returns-2)
