@@ -1,8 +1,11 @@
 -- `token_image::token_keeps` meets its contract: each arm tests the field that it stands for.
 use borrow.Author.Needs.{needs}
 use native.Mathlib.Omega.{arith}
-use mathlib.Core.Path.{_≡_}
+use mathlib.Core.Path.{_≡_, ap, _∙_}
 use Prim.Native.Nat.{_+_, _*_}
+use denote.Ref.{now}
+use Rattle.rules.specs.Limits.{columnAllowed}
+use Rattle.fields.specs.Fields.{fieldAt}
 use Rattle.token_image.specs.TokenImage.{recordFields}
 use Rattle.token_image.proofs.token_keeps.Statement.{statement}
 use Rattle.token_image.proofs.token_keeps.Tie as tie
@@ -39,7 +42,7 @@ returns-2 c =
     let a = c .before .before .before .before .args in
     let which : a .f ≡ 1 = omega (arith, c .before .match .rest .1) in
     let at : 6 + 4 * a .k + 2 * a .f ≡ 6 + 4 * a .k + 2 = omega arith in
-    rw which (cc)
+    rw which (c .column-allowed .ensures ∙ ap columnAllowed (c .before .before .field-at .ensures ∙ ap (fieldAt (now (a .image))) at))
 
 pub token-keeps-spec : {M : Type 1} → statement M
 token-keeps-spec =
