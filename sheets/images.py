@@ -11,9 +11,10 @@ that begins with # is a comment, and ( WORDS ) x N stands for the words N times,
     start NAME
     production N LEFT -> SYMBOL ...  a symbol is a name and, without a blank, its relation: = > >= or * (free)
     production N to M LEFT -> ...    the same production under each number from N to M
-    tokens NAME COLUMN ...
+    tokens NAME COLUMN ...           the column - stands for no column
     text FILE                        the tokens of a text: a line's first word names the terminal, and the
-                                     blanks before it are its column; the rest of the line is for people
+                                     blanks before it are its column; the rest of the line is for people; a line
+                                     that ends in a backslash is joined with the next, whose token has no column
     tree NUMBER ...                  the nodes' production numbers in preorder
     answer NUMBER PLACE              what the program has to print; below it, where it accepts, every node's line
       NODE LOW HIGH INDENTATION      as it is printed
@@ -29,6 +30,7 @@ that begins with # is a comment, and ( WORDS ) x N stands for the words N times,
 
 A name has no blank, is neither ( nor ), and does not end in a relation. FILE counts from the place of the file that names it.
 """
+import math
 import pathlib
 import struct
 import sys
@@ -36,6 +38,7 @@ import sys
 RELATIONS = {">=": 2, "=": 0, ">": 1, "*": 3}
 HOLDS = {0: lambda i, j: j == i, 1: lambda i, j: j > i, 2: lambda i, j: j >= i, 3: lambda i, j: True}
 TERMINAL, NONTERMINAL = 0, 1
+NO_COLUMN = 65535
 
 
 class SheetError(Exception):
@@ -107,6 +110,14 @@ def answer_lines(first, lines, tree):
     return [first] + [nodes[node] for node in range(len(nodes))]
 
 
+def text_tokens(text):
+    """The first word of each line with its column, or with none where the line before ends in a backslash."""
+    joined = False
+    for line in text.splitlines():
+        yield line.split()[0], NO_COLUMN if joined else len(line) - len(line.lstrip(" "))
+        joined = line.endswith("\\")
+
+
 def fields(*values):
     """Unsigned fields of 16 bits, low byte first."""
     return struct.pack(f"<{len(values)}H", *values)
@@ -141,11 +152,12 @@ class Sheet:
         elif keyword == "tokens":
             pairs = expanded(words + below)
             if len(pairs) % 2:
-                raise ValueError("a token without a column")
-            self.tokens += [(self.terminals.index(name), int(column)) for name, column in zip(pairs[::2], pairs[1::2])]
+                raise ValueError("a name without its column")
+            columns = [NO_COLUMN if word == "-" else int(word) for word in pairs[1::2]]
+            self.tokens += [(self.terminals.index(name), column) for name, column in zip(pairs[::2], columns)]
         elif keyword == "text":
             text = (file.parent / words[0]).read_text(encoding="utf-8")
-            self.tokens += [(self.terminals.index(line.split()[0]), len(line) - len(line.lstrip(" "))) for line in text.splitlines()]
+            self.tokens += [(self.terminals.index(name), column) for name, column in text_tokens(text)]
         elif keyword == "tree":
             self.tree += [int(word) for word in expanded(words + below)]
         elif keyword == "answer":
@@ -202,11 +214,14 @@ class Sheet:
         return images
 
     def is_choice(self, numbers):
-        """Whether these indentations, one a node, satisfy all relations: document 01's table, for a tree that derives the tokens."""
+        """Whether these indentations, one a node, satisfy all relations: document 01's table, for a tree that derives the tokens.
+
+        A token without a column carries infinity, which is above every whole number and equal to none.
+        """
         if len(numbers) != len(self.tree):
             return False
         nodes = iter(zip(self.tree, numbers))
-        columns = iter([column for _, column in self.tokens])
+        columns = iter([math.inf if column == NO_COLUMN else column for _, column in self.tokens])
         production, i = next(nodes)
         due = [(i, symbol) for symbol in reversed(self.productions[production][1])]
         all_hold = True
