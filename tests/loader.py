@@ -3,7 +3,7 @@
     python3 tests/loader.py          on x86-64, after `rt staticlib exported`
 
 samples/loader builds the loader, and every warning is an error. Tried are the loader's sentence and status, each call
-of the header from C, and the header alone in C++. What is expected was written by hand from document 01.
+of the header from C, and the header alone in C++. What is expected was written by hand from documents 01 and 02.
 """
 
 import pathlib
@@ -27,6 +27,7 @@ PARTS = ["grammar", "tokens", "tree"]
 # Each number that a loader with room can be given, by a sheet, and the loader's sentence for it.
 SENTENCES = {
     "samples/october": "accepted: 79 nodes, the root's indentation is 1",
+    "samples/october-joined": "accepted: 79 nodes, the root's indentation is 1",
     "samples/october-as-remarks": "refused (12): the columns do not fit the tree, they leave no indentation for node 5",
     "samples/october-tree-only": "refused (7): the tree does not fit the sheet at token 3",
     "sheets/starred-07-day-at-0": "accepted: 2 nodes, the root's indentation is 0",
@@ -49,7 +50,7 @@ FAULTS = {
 }
 
 # Sheet A of document 01, packed and checked from C. GRAMMAR stands for the bytes of its grammar image; 77 is a mark.
-# `day` is a token image of a day alone, `root` a tree image of the root alone.
+# `day` is a token image of a day alone, `root` a tree image of the root alone; `joined` has the item without a column.
 CALLS = r"""
 #include <stdio.h>
 #include <string.h>
@@ -62,8 +63,10 @@ CALLS = r"""
 static const uint8_t grammar[] = {GRAMMAR}, zeros[100];
 static const uint8_t day[] = {1, 0, 6, 0, 10, 0, 0, 0, 1, 0}, root[] = {1, 0, 6, 0, 8, 0, 0, 0};
 static const uint16_t terminals[] = {0, 1, 2, 1}, columns[] = {1, 3, 5, 3}, far[] = {1, 3, 4096, 4096};
+static const uint16_t joined[] = {1, 3, 65535, 3}, farthest[] = {1, 65535, 65534, 4096};
 static const uint16_t nodes[] = {0, 1, 3, 4, 5, 1, 3, 5, 2};
 static const uint32_t low_high[] = {1, 1, 3, 3, 3, 3, 0, 5, 0, NONE, 3, 3, 3, 3, 0, NONE, 0, NONE, 77};
+static const uint32_t joined_low_high[] = {1, 1, 3, 3, 3, 3, 0, NONE, 0, NONE, 3, 3, 3, 3, 0, NONE, 0, NONE, 77};
 static const uint32_t least[] = {1, 3, 3, 4, 4, 3, 3, 4, 3, 77};
 static uint8_t tokens[23], tree[25];
 static uint32_t sets[19], indentations[10];
@@ -90,6 +93,7 @@ int main(void)
 {
     EXPECT(pravisondo_pack_tokens(terminals, 4, columns, 3, tokens, 23), PRAVISONDO_ENTRIES, 0, 0);
     EXPECT(pravisondo_pack_tokens(terminals, 4, far, 4, tokens, 23), PRAVISONDO_COLUMN, 2, 0);
+    EXPECT(pravisondo_pack_tokens(terminals, 4, farthest, 4, tokens, 23), PRAVISONDO_COLUMN, 2, 0);
     EXPECT(pravisondo_pack_tokens(terminals, 4, columns, 4, tokens, 21), PRAVISONDO_NO_ROOM, 22, 0);
     SAME(tokens, zeros);
     EXPECT(pravisondo_pack_tree(nodes, 0, tree, 25), PRAVISONDO_ENTRIES, 0, 0);
@@ -121,6 +125,16 @@ int main(void)
     tokens[16] = 3; /* the item's column, which the check alone judges */
     EXPECT(derive(tokens, 22, tree, 24), PRAVISONDO_ACCEPTED, 0, 0);
     EXPECT(check(19, 10), PRAVISONDO_EMPTY_SET, 2, 0);
+    EXPECT(pravisondo_pack_tokens(terminals, 4, joined, 4, tokens, 23), PRAVISONDO_ACCEPTED, 0, 22);
+    SAME(tokens, "\4\0\6\0\26\0" "\0\0\1\0" "\1\0\3\0" "\2\0\377\377" "\1\0\3\0" "\115");
+    EXPECT(pravisondo_check_tokens(tokens, 22, 3), PRAVISONDO_ACCEPTED, 0, 0);
+    indentations[3] = 77;
+    EXPECT(check(19, 10), PRAVISONDO_ACCEPTED, 0, 0);
+    SAME(sets, joined_low_high);
+    SAME(indentations, least);
+    tokens[16] = 254; /* 65,534 */
+    EXPECT(pravisondo_check_tokens(tokens, 22, 3), PRAVISONDO_TOKEN_IMAGE, 16, 0);
+    EXPECT(check(19, 10), PRAVISONDO_TOKEN_IMAGE, 16, 0);
     return failed;
 }
 """
