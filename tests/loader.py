@@ -63,7 +63,7 @@ CALLS = r"""
 static const uint8_t grammar[] = {GRAMMAR}, zeros[100];
 static const uint8_t day[] = {1, 0, 6, 0, 10, 0, 0, 0, 1, 0}, root[] = {1, 0, 6, 0, 8, 0, 0, 0};
 static const uint16_t terminals[] = {0, 1, 2, 1}, columns[] = {1, 3, 5, 3}, far[] = {1, 3, 4096, 4096};
-static const uint16_t joined[] = {1, 3, 65535, 3}, farthest[] = {1, 65535, 65534, 4096};
+static const uint16_t joined[] = {1, 3, PRAVISONDO_NO_COLUMN, 3}, farthest[] = {1, PRAVISONDO_NO_COLUMN, 65534, 4096};
 static const uint16_t nodes[] = {0, 1, 3, 4, 5, 1, 3, 5, 2};
 static const uint32_t low_high[] = {1, 1, 3, 3, 3, 3, 0, 5, 0, NONE, 3, 3, 3, 3, 0, NONE, 0, NONE, 77};
 static const uint32_t joined_low_high[] = {1, 1, 3, 3, 3, 3, 0, NONE, 0, NONE, 3, 3, 3, 3, 0, NONE, 0, NONE, 77};
