@@ -91,7 +91,8 @@ pub fn pack_tree(productions: &[u16], output: &mut [u8]) -> Answer {
     })
 }
 
-/// Writes the token image of terminals, each with its column.
+/// Writes the token image of terminals, each with its column, or 65,535 for
+/// none.
 pub fn pack_tokens(terminals: &[u16], columns: &[u16], output: &mut [u8]) -> Answer {
     Answer::of(unsafe {
         pravisondo_pack_tokens(

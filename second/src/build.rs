@@ -4,6 +4,9 @@ pub const DAY: u16 = 0;
 pub const HOUR: u16 = 1;
 pub const ITEM: u16 = 2;
 
+/// In the column's place, for a token without a column.
+pub const NO_COLUMN: u16 = 65_535;
+
 /// Sheet A of document 01.
 pub const A_TOKENS: [(u16, u16); 4] = [(DAY, 1), (HOUR, 3), (ITEM, 5), (HOUR, 3)];
 pub const A_TREE: [u16; 9] = [0, 1, 3, 4, 5, 1, 3, 5, 2];

@@ -39,6 +39,17 @@ pub fn derive(grammar: &[u8], tokens: &[u8], tree: &[u8]) -> (u8, usize) {
     }
 }
 
+/// How many tokens without a column stand under each relation, by its number,
+/// as far as the walk comes.
+pub fn without_column(grammar: &[u8], tokens: &[u8], tree: &[u8]) -> [u64; 4] {
+    let mut counts = [0; 4];
+    if let Ok(images) = Images::read::<Right>(grammar, tokens, tree) {
+        // Tokens before a refusal are counted as well.
+        let _ = walk::derive::<Right, _>(&images, &mut counts);
+    }
+    counts
+}
+
 /// Number and place for a grammar image alone.
 pub fn check_grammar(image: &[u8]) -> (u8, usize) {
     match images::grammar::<Right>(image) {

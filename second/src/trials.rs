@@ -1,6 +1,7 @@
-//! Fixed calls with answers written by hand from document 01, for what only a
-//! call can show: the checks of a single image, both packers, the check with
-//! lists that are too short, and the check of the derivation alone.
+//! Fixed calls with answers written by hand from documents 01 and 02, for what
+//! only a call can show: the checks of a single image, both packers, the check
+//! with lists that are too short or with tokens that have no column, and the
+//! check of the derivation alone.
 //!
 //! A trial is a line of what has to come back: a label, then number and place;
 //! for a packer also the length, for the check what it wrote to the two lists.
@@ -9,13 +10,18 @@
 mod derivation;
 mod grammar;
 mod limits;
+mod no_column;
 mod packing;
 mod refusals;
 mod sheet;
 
 use crate::build::{changed, token_image, tree_image, trial, Change, A_TOKENS, A_TREE};
+use crate::lent::Lent;
 use crate::subject::{Answer, Subject};
 use std::fmt::Display;
+
+/// What each entry of a list is before the check has it.
+const MARK: u32 = 4_000_000_000;
 
 /// How many lines were tried on a subject, and those that came out otherwise.
 pub struct Trials {
@@ -33,6 +39,7 @@ pub fn run(subject: &Subject) -> Trials {
     limits::run(subject, &mut trials);
     packing::run(subject, &mut trials);
     refusals::run(subject, &mut trials);
+    no_column::run(subject, &mut trials);
     derivation::run(subject, &mut trials);
     trials
 }
@@ -62,6 +69,43 @@ impl Trials {
         let mut image = changed(image.to_vec(), changes);
         image.resize(length, 0);
         self.line(line, check(&image));
+    }
+
+    /// The check with so many entries lent of sets and indentations: number
+    /// and place, and of sheet A's lists what the answer says is written.
+    fn check(
+        &mut self,
+        subject: &Subject,
+        line: &str,
+        [grammar, tokens, tree]: [Vec<u8>; 3],
+        room: [usize; 2],
+    ) {
+        let mut sets = Lent::default();
+        let mut indentations = Lent::default();
+        let answer = (subject.check)(
+            &grammar,
+            &tokens,
+            &tree,
+            sets.lend(room[0], MARK),
+            indentations.lend(room[1], MARK),
+        );
+        let named = match answer.number {
+            0 => [18, 9],
+            12 => [18, 0],
+            _ => [0, 0],
+        };
+        let mut given = answer.to_string();
+        for (name, list, named) in [
+            ("sets", &sets, named[0]),
+            ("indentations", &indentations, named[1]),
+        ] {
+            if named > 0 {
+                let written = list.part().get(..named).unwrap_or(list.part());
+                given += &format!(", {name} {}", numbers(written));
+            }
+        }
+        given += &outside(sets.outside(named[0]) + indentations.outside(named[1]));
+        self.line(line, given);
     }
 }
 

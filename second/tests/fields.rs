@@ -65,8 +65,10 @@ fn token_fields() {
         (&[(0, 3)], 4),
         (&[(6, 3)], 6),
         (&[(12, 4096)], 12),
-        (&[(20, 65_535)], 20),
-        (&[(20, 65_535), (18, 3)], 18),
+        (&[(20, 65_534)], 20),
+        (&[(20, 65_534), (18, 3)], 18),
+        // No column at 8 is none of the faults.
+        (&[(8, NO_COLUMN), (12, 65_534)], 12),
     ];
     for (changes, place) in cases {
         let tokens = changed(token_image(&A_TOKENS), changes);

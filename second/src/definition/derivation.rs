@@ -2,7 +2,7 @@
 //! right, and a row is right when each symbol in it is met by the next node
 //! or the next token. What comes out is the tree with its children inside.
 
-use super::images::{Images, Kind, Symbol};
+use super::images::{Column, Images, Kind, Symbol};
 use super::relation::Relation;
 
 const MOST_DEPTH: usize = 256;
@@ -15,7 +15,7 @@ pub struct Node {
 
 pub enum Child {
     /// A token, of which only the column is left to judge.
-    Column(u32),
+    Token(Column),
     Node(Node),
 }
 
@@ -25,7 +25,8 @@ impl Node {
     pub fn every_relation_holds(&self, numbers: &[u32]) -> bool {
         let i = numbers[self.number];
         self.row.iter().all(|(relation, child)| match child {
-            Child::Column(column) => relation.holds(i, *column),
+            Child::Token(Some(column)) => relation.holds(i, *column),
+            Child::Token(None) => relation.holds_without_column(),
             Child::Node(child) => {
                 relation.holds(i, numbers[child.number]) && child.every_relation_holds(numbers)
             }
@@ -89,7 +90,7 @@ impl<'a> Walk<'a> {
         let mut children = Vec::new();
         for symbol in row {
             let child = match symbol.kind {
-                Kind::Terminal(terminal) => Child::Column(self.token(terminal)?),
+                Kind::Terminal(terminal) => Child::Token(self.token(terminal)?),
                 Kind::Nonterminal(nonterminal) => Child::Node(self.node(nonterminal, depth + 1)?),
             };
             children.push((symbol.relation, child));
@@ -98,7 +99,7 @@ impl<'a> Walk<'a> {
     }
 
     /// A token is due that carries `terminal`; gives its column.
-    fn token(&mut self, terminal: u32) -> Result<u32, Refusal> {
+    fn token(&mut self, terminal: u32) -> Result<Column, Refusal> {
         let Some(token) = self.images.tokens.get(self.tokens) else {
             return Err((8, self.tokens));
         };

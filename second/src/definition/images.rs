@@ -22,9 +22,12 @@ pub struct Symbol {
     pub relation: Relation,
 }
 
+/// A token's column, or nothing for a token without one.
+pub type Column = Option<u32>;
+
 pub struct Token {
     pub terminal: u32,
-    pub column: u32,
+    pub column: Column,
 }
 
 pub struct Images {
@@ -33,6 +36,9 @@ pub struct Images {
     pub tokens: Vec<Token>,
     pub tree: Vec<usize>,
 }
+
+/// Stands in the column field of a token without a column.
+pub const NO_COLUMN: u16 = 65_535;
 
 /// The byte of the field that breaks its rule.
 type Fault = usize;
@@ -96,6 +102,13 @@ impl Fields<'_> {
 
     fn fixed(self, at: usize, value: u32) -> Result<(), Fault> {
         self.word(at, value..=value).map(|_| ())
+    }
+
+    fn column(self, at: usize) -> Result<Column, Fault> {
+        match self.fixed(at, NO_COLUMN.into()) {
+            Ok(()) => Ok(None),
+            Err(_) => self.word(at, 0..=4095).map(Some),
+        }
     }
 
     /// The total length has to be both what the counts give and the real one.
@@ -168,7 +181,7 @@ fn read_tokens(image: Fields, terminals: u32) -> Result<Vec<Token>, Fault> {
             let at = 6 + 4 * index;
             Ok(Token {
                 terminal: image.word(at, below(terminals))?,
-                column: image.word(at + 2, 0..=4095)?,
+                column: image.column(at + 2)?,
             })
         })
         .collect()

@@ -19,11 +19,14 @@ fn sweep(node: &Node, numbers: &mut [u32]) -> bool {
     let mut moved = false;
     for (relation, child) in &node.row {
         match child {
-            Child::Column(column) => {
+            Child::Token(Some(column)) => {
                 if *relation == Relation::Equal {
                     moved |= raise(&mut numbers[node.number], *column);
                 }
             }
+            // It stands in its relation to every number or to none, so it
+            // asks for no other.
+            Child::Token(None) => {}
             Child::Node(child) => {
                 moved |= force(numbers, node.number, *relation, child.number);
                 moved |= sweep(child, numbers);

@@ -1,6 +1,8 @@
 //! The two packers by document 01: the records are put together apart, as a
 //! list of fields, and go to the output only if nothing is refused.
 
+use super::images::NO_COLUMN;
+
 const MOST: usize = 4096;
 
 /// Number, place and length.
@@ -18,7 +20,7 @@ pub fn pack_tokens(terminals: &[u16], columns: &[u16], output: &mut [u8]) -> (u8
     }
     let mut records = Vec::new();
     for index in 0..columns.len() {
-        if columns[index] >= 4096 {
+        if (4096..NO_COLUMN).contains(&columns[index]) {
             return (14, index, 0);
         }
         records.push(terminals[index]);

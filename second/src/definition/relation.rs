@@ -27,4 +27,13 @@ impl Relation {
             Relation::Free => true,
         }
     }
+
+    /// Whether a token without a column stands in the relation to its node,
+    /// whatever the indentation of the node.
+    pub fn holds_without_column(self) -> bool {
+        match self {
+            Relation::Equal => false,
+            Relation::Greater | Relation::GreaterOrEqual | Relation::Free => true,
+        }
+    }
 }

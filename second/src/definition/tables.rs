@@ -7,9 +7,10 @@
 //! subtree, and let i' be another number. Take the node and every node that
 //! is reached from it downward through relations other than free. Their
 //! numbers are i or more, above every column, so none of them has a token
-//! under a relation other than free. Add i' - i to all of their numbers. None
-//! falls below 0, the relations among them hold as before, and every relation
-//! that leads out of them is free. So i' is in the set too.
+//! with a column under a relation other than free. Add i' - i to all of their
+//! numbers. None falls below 0, the relations among them hold as before, and
+//! every relation that leads out of them is free or leads to a token without
+//! a column, which holds whatever the number. So i' is in the set too.
 //!
 //! Hence a set with `TOP` in it has no upper bound, a set without it has no
 //! number above 4,095, and "some j above `TOP`" is the same question as
@@ -35,17 +36,19 @@ pub fn sets(root: &Node, nodes: usize) -> Vec<Option<(u32, u32)>> {
 }
 
 /// A number is in when, for every symbol of the row, some number of the
-/// child's set, or the token's column, stands in the relation to it.
+/// child's set, or the token by its column or without one, stands in the
+/// relation to it.
 fn table(node: &Node, sets: &mut [Option<(u32, u32)>]) -> Table {
     let mut members = vec![true; TOP + 1];
     for &(relation, ref child) in &node.row {
         match child {
-            &Child::Column(column) => match relation {
+            &Child::Token(Some(column)) => match relation {
                 Relation::Equal => keep(&mut members, |i| column == i),
                 Relation::Greater => keep(&mut members, |i| column > i),
                 Relation::GreaterOrEqual => keep(&mut members, |i| column >= i),
                 Relation::Free => {}
             },
+            Child::Token(None) => keep(&mut members, |_| relation.holds_without_column()),
             Child::Node(child) => {
                 let allowed = some_number_stands(relation, table(child, sets));
                 for (member, allowed) in members.iter_mut().zip(&allowed) {

@@ -44,6 +44,17 @@ pub fn word(low: u8, high: u8) -> u16 {
     u16::from_le_bytes([low, high])
 }
 
+const LAST_COLUMN: u16 = 4095;
+
+/// The column field of a token without a column.
+pub const NO_COLUMN: u16 = 65_535;
+
+/// Whether a token may have this in its column field.
+#[inline(always)]
+pub fn is_column(field: u16) -> bool {
+    field <= LAST_COLUMN || field == NO_COLUMN
+}
+
 pub fn grammar<R: Reading>(image: &[u8]) -> Result<Grammar<'_>, usize> {
     let Some((header, records)) = image.split_first_chunk::<16>() else {
         return Err(image.len());
@@ -149,7 +160,7 @@ pub fn tokens(image: &[u8], terminals: u16) -> Result<&[[u8; 4]], usize> {
         if word(t0, t1) >= terminals {
             return Err(6 + 4 * index);
         }
-        if word(c0, c1) > 4095 {
+        if !is_column(word(c0, c1)) {
             return Err(8 + 4 * index);
         }
     }

@@ -1,8 +1,9 @@
 //! The two packers. Each judges first and writes then, straight into the
 //! output. What comes back is number, place and length.
 
+use super::images::is_column;
+
 const MOST_ENTRIES: usize = 4096;
-const LAST_COLUMN: u16 = 4095;
 
 pub fn pack_tree(productions: &[u16], output: &mut [u8]) -> (u8, usize, usize) {
     let count = productions.len();
@@ -25,7 +26,7 @@ pub fn pack_tokens(terminals: &[u16], columns: &[u16], output: &mut [u8]) -> (u8
     if count > MOST_ENTRIES || count != columns.len() {
         return (13, 0, 0);
     }
-    if let Some(index) = columns.iter().position(|&column| column > LAST_COLUMN) {
+    if let Some(index) = columns.iter().position(|&column| !is_column(column)) {
         return (14, index, 0);
     }
     let length = 6 + 4 * count;

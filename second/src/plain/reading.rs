@@ -1,8 +1,9 @@
-//! How document 01 is read at three points where a reader slips easily.
+//! How the rules are read at four points where a reader slips easily.
 //!
 //! The defaults are the right reading, the only one that a program runs. A
 //! test takes one of them wrongly and demands that the comparison finds it.
-//! All are constants, so that the right reading costs nothing.
+//! All are chosen when a program is built, so that the right reading costs
+//! nothing.
 
 pub trait Reading {
     /// How far a child under > stands to the right of its node, at least.
@@ -12,6 +13,13 @@ pub trait Reading {
     const EMPTY_PASSES_FREE: bool = true;
     /// Whether a symbol's relation has to be one of the four.
     const RELATION_TESTED: bool = true;
+
+    /// Whether a token without a column stands in the relation to its node,
+    /// which it does to every number of the node or to none.
+    #[inline(always)]
+    fn holds_without_column(relation: u16) -> bool {
+        relation != 0
+    }
 }
 
 pub struct Right;

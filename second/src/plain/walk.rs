@@ -2,12 +2,12 @@
 //! columns, notes for each node what stands above it and what its own tokens
 //! allow.
 
-use super::images::{word, Images};
+use super::images::{word, Images, NO_COLUMN};
 use super::reading::Reading;
 use super::Refusal;
 
-/// The high of a note without upper bound. Columns end at 4,095, so no bound
-/// ever comes near it.
+/// The high of a note without upper bound. Columns end at 4,095 and a token
+/// without a column sets no bound, so no bound ever comes near it.
 pub const NO_BOUND: i16 = i16::MAX;
 
 const MOST_DEPTH: usize = 256;
@@ -48,11 +48,13 @@ impl Note {
     }
 }
 
-/// Where the walk leaves what it meets: in a list with one note a node, or
-/// nowhere, if the derivation is all that is asked.
+/// Where the walk leaves what it meets: in a list with one note a node, in
+/// counts of tokens without a column, or nowhere, if the derivation is all
+/// that is asked.
 pub trait Noted {
     fn node(&mut self, node: usize, above: u16, relation: u16);
-    fn token<R: Reading>(&mut self, node: u16, relation: u16, column: i16);
+    /// The column as its field has it, which may be `NO_COLUMN`.
+    fn token<R: Reading>(&mut self, node: u16, relation: u16, column: u16);
 }
 
 impl Noted for [Note] {
@@ -67,14 +69,28 @@ impl Noted for [Note] {
     }
 
     #[inline(always)]
-    fn token<R: Reading>(&mut self, node: u16, relation: u16, column: i16) {
-        self[usize::from(node)].meet::<R>(relation, column, column);
+    fn token<R: Reading>(&mut self, node: u16, relation: u16, column: u16) {
+        let note = &mut self[usize::from(node)];
+        if column != NO_COLUMN {
+            note.meet::<R>(relation, column as i16, column as i16);
+        } else if !R::holds_without_column(relation) {
+            // Below every low, so that no number is open.
+            note.high = -1;
+        }
+    }
+}
+
+/// A count for each relation, by its number.
+impl Noted for [u64; 4] {
+    fn node(&mut self, _: usize, _: u16, _: u16) {}
+    fn token<R: Reading>(&mut self, _: u16, relation: u16, column: u16) {
+        self[usize::from(relation)] += u64::from(column == NO_COLUMN);
     }
 }
 
 impl Noted for () {
     fn node(&mut self, _: usize, _: u16, _: u16) {}
-    fn token<R: Reading>(&mut self, _: u16, _: u16, _: i16) {}
+    fn token<R: Reading>(&mut self, _: u16, _: u16, _: u16) {}
 }
 
 /// An open node and the symbol entries of its row that are still due.
@@ -152,8 +168,7 @@ pub fn derive<R: Reading, N: Noted + ?Sized>(
             if word(t0, t1) != number {
                 return Err((7, token));
             }
-            let column = word(c0, c1) as i16;
-            notes.token::<R>(row.node, its_relation, column);
+            notes.token::<R>(row.node, its_relation, word(c0, c1));
             token += 1;
         }
     }

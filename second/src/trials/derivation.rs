@@ -2,7 +2,7 @@
 //! sets, and 0 0 where the whole check gives 0 or 12.
 
 use super::{cut_sheet_a, sheet_a, Changes, Trials};
-use crate::build::{token_image, tree_image, trial, A_TOKENS, A_TREE, DAY, HOUR, ITEM};
+use crate::build::{token_image, tree_image, trial, A_TOKENS, A_TREE, DAY, HOUR, ITEM, NO_COLUMN};
 use crate::subject::Subject;
 
 type Sheet = (&'static str, &'static [(u16, u16)], &'static [u16]);
@@ -49,6 +49,35 @@ const SHEETS: [Sheet; 14] = [
     ("node remains: 10 2", &[(DAY, 1), (HOUR, 3)], &[0, 2, 2]),
 ];
 
+/// Sheets with tokens without a column, which derive as with any.
+const NO_COLUMNS: [Sheet; 4] = [
+    (
+        "A with item without a column: 0 0",
+        &[(DAY, 1), (HOUR, 3), (ITEM, NO_COLUMN), (HOUR, 3)],
+        &A_TREE,
+    ),
+    (
+        "A with day without a column, by the check 12 0: 0 0",
+        &[(DAY, NO_COLUMN), (HOUR, 3), (ITEM, 5), (HOUR, 3)],
+        &A_TREE,
+    ),
+    (
+        "A without any column, by the check 12 6: 0 0",
+        &[
+            (DAY, NO_COLUMN),
+            (HOUR, NO_COLUMN),
+            (ITEM, NO_COLUMN),
+            (HOUR, NO_COLUMN),
+        ],
+        &A_TREE,
+    ),
+    (
+        "hour without a column for a day: 7 0",
+        &[(HOUR, NO_COLUMN)],
+        &[0, 2],
+    ),
+];
+
 /// A day at column 1 and so many hours at column 3 without items.
 const HOURS: [(&str, usize); 2] = [
     ("253 hours, depth 256: 0 0", 253),
@@ -58,7 +87,7 @@ const HOURS: [(&str, usize); 2] = [
 /// A line, and the fields of grammar, token and tree image that are changed.
 /// A relation and a column are tested as fields, though nothing is asked of
 /// them later. Relation 4 is 1,024 as one field with kind 0.
-const FAULTS: [(&str, [Changes; 3]); 8] = [
+const FAULTS: [(&str, [Changes; 3]); 9] = [
     (
         "All three counts: 1 0",
         [&[(0, 0)], &[(0, 4097)], &[(0, 0)]],
@@ -71,6 +100,7 @@ const FAULTS: [(&str, [Changes; 3]); 8] = [
     ("token and node count: 2 0", [&[], &[(0, 4097)], &[(0, 0)]]),
     ("last token and node: 2 18", [&[], &[(18, 3)], &[(22, 6)]]),
     ("last column: 2 20", [&[], &[(20, 4096)], &[]]),
+    ("last column 65,534: 2 20", [&[], &[(20, 65_534)], &[]]),
     ("node count: 3 0", [&[], &[], &[(0, 0)]]),
     ("last node: 3 22", [&[], &[], &[(22, 6)]]),
 ];
@@ -86,7 +116,7 @@ pub fn run(subject: &Subject, trials: &mut Trials) {
     let mut derived = |line: &str, [grammar, tokens, tree]: [Vec<u8>; 3]| {
         trials.line(line, (subject.derive)(&grammar, &tokens, &tree));
     };
-    for (line, tokens, tree) in SHEETS {
+    for (line, tokens, tree) in SHEETS.into_iter().chain(NO_COLUMNS) {
         derived(line, [trial(), token_image(tokens), tree_image(tree)]);
     }
     for (line, hours) in HOURS {

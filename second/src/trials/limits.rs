@@ -29,11 +29,13 @@ const GRAMMAR: [Changed; 11] = [
 ];
 
 /// Each token is terminal 2 at column 4,095.
-const TOKENS: [Changed; 5] = [
+const TOKENS: [Changed; 7] = [
     ("4,096 tokens: 0 0", &[], 16_390),
     ("one byte short: 2 4", &[], 16_389),
     ("one byte too long: 2 4", &[], 16_391),
     ("last column 4,096: 2 16388", &[(16_388, 4096)], 16_390),
+    ("last column 65,534: 2 16388", &[(16_388, 65_534)], 16_390),
+    ("last column 65,535: 0 0", &[(16_388, 65_535)], 16_390),
     (
         "last terminal 3: 2 16386",
         &[(16_388, 4096), (16_386, 3)],

@@ -15,6 +15,7 @@ const ROOM: usize = 16_400;
 const NODES: &[u16] = &[0, 1, 3, 4, 5, 1, 3, 5, 2];
 const TERMINALS: &[u16] = &[0, 1, 2, 1];
 const COLUMNS: &[u16] = &[1, 3, 5, 3];
+const NO_COLUMN_AT_ENDS: &[u16] = &[65_535, 3, 5, 65_535];
 
 /// A line with number, place and length, the productions, and the room of the
 /// output.
@@ -35,7 +36,7 @@ const TREES: [(&str, &[u16], usize); 13] = [
 ];
 
 /// The most terminals, and the most columns: all at the last one, or the final
-/// one past it. Then a list with an entry too many.
+/// one past it, or each none. Then a list with an entry too many.
 const TWOS: &[u16] = &[2; 4096];
 const LAST: &[u16] = &[4095; 4096];
 const PAST: &[u16] = &{
@@ -43,11 +44,12 @@ const PAST: &[u16] = &{
     columns[4095] = 4096;
     columns
 };
+const NONE: &[u16] = &[65_535; 4096];
 const OVER: &[u16] = &[4096; 4097];
 
 /// A line with number, place and length, terminals and columns, and the room
 /// of the output.
-const TOKENS: [(&str, &[u16], &[u16], usize); 24] = [
+const TOKENS: [(&str, &[u16], &[u16], usize); 29] = [
     ("Token packer, sheet A: 0 0 22", TERMINALS, COLUMNS, 64),
     ("sheet A in 22 bytes: 0 0 22", TERMINALS, COLUMNS, 22),
     ("sheet A in 21 bytes: 4 22 0", TERMINALS, COLUMNS, 21),
@@ -72,9 +74,33 @@ const TOKENS: [(&str, &[u16], &[u16], usize); 24] = [
         64,
     ),
     (
-        "column 65,535 at 0: 14 0 0",
+        "column 65,534 at 0: 14 0 0",
+        TERMINALS,
+        &[65_534, 3, 4096, 3],
+        64,
+    ),
+    (
+        "column 65,535 at 0 and 3: 0 0 22",
+        TERMINALS,
+        NO_COLUMN_AT_ENDS,
+        64,
+    ),
+    (
+        "column 65,535 at 0 and 3 in 21 bytes: 4 22 0",
+        TERMINALS,
+        NO_COLUMN_AT_ENDS,
+        21,
+    ),
+    (
+        "column 65,535 at 0, 4,096 at 2: 14 2 0",
         TERMINALS,
         &[65_535, 3, 4096, 3],
+        64,
+    ),
+    (
+        "column 65,535 at 2, 65,534 at 3: 14 3 0",
+        TERMINALS,
+        &[1, 3, 65_535, 65_534],
         64,
     ),
     ("column 4,096 at 3: 14 3 0", TERMINALS, &[1, 3, 5, 4096], 64),
@@ -109,6 +135,7 @@ const TOKENS: [(&str, &[u16], &[u16], usize); 24] = [
         PAST,
         ROOM,
     ),
+    ("4,096 tokens, columns 65,535: 0 0 16390", TWOS, NONE, ROOM),
     (
         "4,096 terminals and 4,097 columns: 13 0 0",
         TWOS,
@@ -135,7 +162,7 @@ const TREE_BYTES: [Bytes<&[u16]>; 2] = [
     ),
 ];
 
-const TOKEN_BYTES: [Bytes<(&[u16], &[u16])>; 3] = [
+const TOKEN_BYTES: [Bytes<(&[u16], &[u16])>; 4] = [
     (
         (TERMINALS, COLUMNS),
         "Bytes of sheet A's tokens: 4 0 6 0 22 0 0 0 1 0 1 0 3 0 2 0 5 0 1 0 3 0",
@@ -145,6 +172,12 @@ const TOKEN_BYTES: [Bytes<(&[u16], &[u16])>; 3] = [
         (&[65_535, 3], &[4095, 0]),
         "bytes of terminal 65,535: 2 0 6 0 14 0 255 255 255 15 3 0 0 0",
         "checked: 2 6",
+    ),
+    (
+        (TERMINALS, NO_COLUMN_AT_ENDS),
+        "bytes of column 65,535 at 0 and 3: \
+         4 0 6 0 22 0 0 0 255 255 1 0 3 0 2 0 5 0 1 0 255 255",
+        "checked: 0 0",
     ),
     (
         (&[], &[]),

@@ -2,12 +2,8 @@
 //! the first in the order of document 01's table is given, whatever is wrong
 //! with what is tested later.
 
-use super::{cut_sheet_a, numbers, outside, sheet_a, Changes, Trials};
-use crate::lent::Lent;
+use super::{cut_sheet_a, sheet_a, Changes, Trials};
 use crate::subject::Subject;
-
-/// What each entry of a list is before the check has it.
-const MARK: u32 = 4_000_000_000;
 
 /// Room for the sets and the indentations of every tree, and some more.
 const ROOM: [usize; 2] = [8200, 4100];
@@ -15,7 +11,7 @@ const ROOM: [usize; 2] = [8200, 4100];
 /// A line, and the fields of grammar, token and tree image that are changed;
 /// no entries are lent. Sheet A's own fields are 3 terminals, 4 tokens and 9
 /// nodes, at byte 0 of each image.
-const FAULTS: [(&str, [Changes; 3]); 7] = [
+const FAULTS: [(&str, [Changes; 3]); 8] = [
     (
         "All three counts: 1 0",
         [&[(0, 0)], &[(0, 4097)], &[(0, 0)]],
@@ -27,6 +23,7 @@ const FAULTS: [(&str, [Changes; 3]); 7] = [
     ("token and node count: 2 0", [&[], &[(0, 4097)], &[(0, 0)]]),
     ("last token and node: 2 18", [&[], &[(18, 3)], &[(22, 6)]]),
     ("last column: 2 20", [&[], &[(20, 4096)], &[]]),
+    ("last column 65,534: 2 20", [&[], &[(20, 65_534)], &[]]),
     ("node count: 3 0", [&[], &[], &[(0, 0)]]),
     ("last node: 3 22", [&[], &[], &[(22, 6)]]),
 ];
@@ -76,54 +73,12 @@ const ROOMS: [(&str, [Changes; 2], [usize; 2]); 10] = [
 
 pub fn run(subject: &Subject, trials: &mut Trials) {
     for (line, [grammar, tokens, tree]) in FAULTS {
-        checked(
-            subject,
-            trials,
-            line,
-            sheet_a(grammar, tokens, tree),
-            [0, 0],
-        );
+        trials.check(subject, line, sheet_a(grammar, tokens, tree), [0, 0]);
     }
     for (line, lengths) in LENGTHS {
-        checked(subject, trials, line, cut_sheet_a(lengths), ROOM);
+        trials.check(subject, line, cut_sheet_a(lengths), ROOM);
     }
     for (line, [grammar, tokens], room) in ROOMS {
-        checked(subject, trials, line, sheet_a(grammar, tokens, &[]), room);
+        trials.check(subject, line, sheet_a(grammar, tokens, &[]), room);
     }
-}
-
-/// Number and place, and of sheet A's lists what the answer says is written.
-fn checked(
-    subject: &Subject,
-    trials: &mut Trials,
-    line: &str,
-    [grammar, tokens, tree]: [Vec<u8>; 3],
-    room: [usize; 2],
-) {
-    let mut sets = Lent::default();
-    let mut indentations = Lent::default();
-    let answer = (subject.check)(
-        &grammar,
-        &tokens,
-        &tree,
-        sets.lend(room[0], MARK),
-        indentations.lend(room[1], MARK),
-    );
-    let named = match answer.number {
-        0 => [18, 9],
-        12 => [18, 0],
-        _ => [0, 0],
-    };
-    let mut given = answer.to_string();
-    for (name, list, named) in [
-        ("sets", &sets, named[0]),
-        ("indentations", &indentations, named[1]),
-    ] {
-        if named > 0 {
-            let written = list.part().get(..named).unwrap_or(list.part());
-            given += &format!(", {name} {}", numbers(written));
-        }
-    }
-    given += &outside(sets.outside(named[0]) + indentations.outside(named[1]));
-    trials.line(line, given);
 }

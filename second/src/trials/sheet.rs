@@ -5,7 +5,7 @@ use super::{Changed, Trials};
 use crate::build::{token_image, tree_image, A_TOKENS, A_TREE};
 use crate::subject::Subject;
 
-const TOKENS: [Changed; 25] = [
+const TOKENS: [Changed; 30] = [
     ("Token image: 0 0", &[], 22),
     ("count 4,096: 2 4", &[(0, 4096)], 22),
     ("count 4,097: 2 0", &[(0, 4097)], 22),
@@ -17,13 +17,22 @@ const TOKENS: [Changed; 25] = [
     ("first terminal 3: 2 6", &[(6, 3)], 22),
     ("first column 4,095: 0 0", &[(8, 4095)], 22),
     ("first column 4,096: 2 8", &[(8, 4096)], 22),
+    ("first column 65,534: 2 8", &[(8, 65_534)], 22),
+    ("first column 65,535: 0 0", &[(8, 65_535)], 22),
     ("last terminal 3: 2 18", &[(18, 3)], 22),
     ("last column 4,095: 0 0", &[(20, 4095)], 22),
     ("last column 4,096: 2 20", &[(20, 4096)], 22),
+    ("last column 65,534: 2 20", &[(20, 65_534)], 22),
+    ("last column 65,535: 0 0", &[(20, 65_535)], 22),
     ("count 4,097, offset 5: 2 0", &[(0, 4097), (2, 5)], 22),
     (
         "first column 4,096, second terminal 3: 2 8",
         &[(8, 4096), (10, 3)],
+        22,
+    ),
+    (
+        "first column 65,535, second terminal 3: 2 10",
+        &[(8, 65_535), (10, 3)],
         22,
     ),
     ("no tokens: 0 0", &[(0, 0), (4, 6)], 6),
