@@ -1,5 +1,5 @@
-//! The second program: document 01 written down twice more, each time apart
-//! from the program that is proved.
+//! The second program: document 01, with the changes made to it, written down
+//! twice more, each time apart from the program that is proved.
 //!
 //! `plain` is the quick one, `definition` the one that follows the words and
 //! tries numbers. They share no code, so that a slip in one shows as a
@@ -25,3 +25,4 @@ pub mod subject;
 pub mod tally;
 pub mod trials;
 pub mod turns;
+mod without_column;

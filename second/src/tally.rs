@@ -3,6 +3,7 @@
 
 use crate::definition;
 use crate::delivery;
+use crate::without_column::WithoutColumn;
 use std::fmt;
 
 const ANSWERS: usize = 13;
@@ -19,6 +20,7 @@ struct Counts {
 #[derive(Default)]
 pub struct Tally {
     answers: [Counts; ANSWERS],
+    without_column: WithoutColumn,
 }
 
 impl Tally {
@@ -37,6 +39,9 @@ impl Tally {
             counts.deep += u64::from(shape.depth > DEEP);
             counts.large += u64::from(shape.nodes > MANY_NODES);
         }
+        if let Some(0 | 12) = number {
+            self.without_column.add(grammar, tokens, tree);
+        }
     }
 
     pub fn join(&mut self, other: &Tally) {
@@ -45,6 +50,7 @@ impl Tally {
             mine.deep += theirs.deep;
             mine.large += theirs.large;
         }
+        self.without_column.join(&other.without_column);
     }
 
     pub fn inputs(&self) -> u64 {
@@ -52,11 +58,13 @@ impl Tally {
     }
 
     /// Answers that should have been met and were not, and 4 if it was: the
-    /// lists that a program lends are always long enough.
+    /// lists that a program lends are always long enough. And relations that
+    /// met no token without a column.
     pub fn faults(&self) -> Vec<String> {
         (0..ANSWERS)
             .filter(|&number| (self.answers[number].inputs == 0) != (number == 4))
             .map(|number| format!("answer {number}: {} inputs", self.answers[number].inputs))
+            .chain(self.without_column.missing())
             .collect()
     }
 }
@@ -77,6 +85,7 @@ impl fmt::Display for Tally {
         }
         let all = |of: fn(&Counts) -> u64| self.answers.iter().map(of).sum::<u64>();
         let (inputs, deep, large) = (all(|c| c.inputs), all(|c| c.deep), all(|c| c.large));
-        writeln!(f, "   all   {inputs:>6}   {deep:>15}   {large:>15}")
+        writeln!(f, "   all   {inputs:>6}   {deep:>15}   {large:>15}")?;
+        writeln!(f, "{}", self.without_column)
     }
 }

@@ -1,6 +1,7 @@
 //! The in-process comparison is itself tried: it finds nothing on the checks
 //! of this package, and it finds each wrong version.
 
+use second::build::NO_COLUMN;
 use second::in_process::{agree, compare, Run, Tally};
 use second::plain::{self, Reading};
 use second::subject::{Answer, Subject, DEFINITION, PLAIN};
@@ -36,7 +37,18 @@ fn the_right_versions_are_not_found() {
     assert_eq!((tally.inputs, differences), (2000, 0));
 }
 
-/// `plain` with another reading of document 01.
+/// A run in which a relation meets no token without a column is not enough.
+#[test]
+fn relations_without_such_a_token_are_told() {
+    let missing = Tally::default().missing();
+    let faults = second::tally::Tally::default().faults();
+    for relation in ["=", ">", "≥", "free"] {
+        let line = format!("{relation} never met a token without a column");
+        assert!(missing.contains(&line) && faults.contains(&line), "{line}");
+    }
+}
+
+/// `plain` with another reading of the rules.
 fn read<R: Reading>(name: &'static str) -> Subject {
     Subject {
         name,
@@ -70,6 +82,38 @@ fn free_that_forgives_an_empty_child() {
         const EMPTY_PASSES_FREE: bool = false;
     }
     found(read::<Forgiving>("a free relation that forgives"));
+}
+
+#[test]
+fn relations_of_a_token_without_a_column() {
+    struct EqualHolds;
+    impl Reading for EqualHolds {
+        fn holds_without_column(_: u16) -> bool {
+            true
+        }
+    }
+    found(read::<EqualHolds>("= without a column"));
+    struct GreaterFails;
+    impl Reading for GreaterFails {
+        fn holds_without_column(relation: u16) -> bool {
+            relation > 1
+        }
+    }
+    found(read::<GreaterFails>("no > without a column"));
+    struct AtLeastFails;
+    impl Reading for AtLeastFails {
+        fn holds_without_column(relation: u16) -> bool {
+            relation == 1 || relation == 3
+        }
+    }
+    found(read::<AtLeastFails>("no >= without a column"));
+    struct FreeFails;
+    impl Reading for FreeFails {
+        fn holds_without_column(relation: u16) -> bool {
+            relation == 1 || relation == 2
+        }
+    }
+    found(read::<FreeFails>("no free relation without a column"));
 }
 
 #[test]
@@ -132,6 +176,30 @@ fn list_written_on_12() {
         }
         answer
     }));
+}
+
+/// A token image with one column in place of another.
+fn exchanged(tokens: &[u8], from: u16, to: u16) -> Vec<u8> {
+    let mut tokens = tokens.to_vec();
+    let records = tokens.get_mut(6..).unwrap_or(&mut []);
+    for [_, _, column @ ..] in records.as_chunks_mut::<4>().0 {
+        if *column == from.to_le_bytes() {
+            *column = to.to_le_bytes();
+        }
+    }
+    tokens
+}
+
+#[test]
+fn no_column_taken_for_a_number() {
+    found(Subject {
+        name: "no column taken for the last one",
+        check: |grammar, tokens, tree, sets, indentations| {
+            let tokens = exchanged(tokens, NO_COLUMN, 4095);
+            (PLAIN.check)(grammar, &tokens, tree, sets, indentations)
+        },
+        ..PLAIN
+    });
 }
 
 #[test]
@@ -204,7 +272,8 @@ fn wrong_packers_and_image_checks() {
         name: "a column at fault named by the last",
         pack_tokens: |terminals, columns, output| {
             let answer = (PLAIN.pack_tokens)(terminals, columns, output);
-            match columns.iter().rposition(|&column| column > 4095) {
+            let at_fault = |column: &u16| (4096..NO_COLUMN).contains(column);
+            match columns.iter().rposition(at_fault) {
                 Some(place) if answer.number == 14 => Answer { place, ..answer },
                 _ => answer,
             }
@@ -238,6 +307,41 @@ fn wrong_packers_and_image_checks() {
     found(Subject {
         name: "no terminals taken for one",
         check_tokens: |image, terminals| (PLAIN.check_tokens)(image, terminals.max(1)),
+        ..PLAIN
+    });
+}
+
+#[test]
+fn wrong_packers_and_image_checks_without_a_column() {
+    /// The packer with one column in place of another.
+    macro_rules! packer {
+        ($name:literal, $from:expr, $to:expr) => {
+            Subject {
+                name: $name,
+                pack_tokens: |terminals, columns, output| {
+                    let exchange = |&column| if column == $from { $to } else { column };
+                    let columns: Vec<u16> = columns.iter().map(exchange).collect();
+                    (PLAIN.pack_tokens)(terminals, &columns, output)
+                },
+                ..PLAIN
+            }
+        };
+    }
+    found(packer!("a packer with 14 for 65,535", NO_COLUMN, 4096));
+    found(packer!("a packer without 14 for 65,534", 65_534, NO_COLUMN));
+    found(packer!("a packer that lists a column", NO_COLUMN, 4095));
+    found(Subject {
+        name: "2 for 65,535",
+        check_tokens: |image, terminals| {
+            (PLAIN.check_tokens)(&exchanged(image, NO_COLUMN, 4096), terminals)
+        },
+        ..PLAIN
+    });
+    found(Subject {
+        name: "no 2 for 65,534",
+        check_tokens: |image, terminals| {
+            (PLAIN.check_tokens)(&exchanged(image, 65_534, NO_COLUMN), terminals)
+        },
         ..PLAIN
     });
 }

@@ -1,10 +1,20 @@
 //! Columns for the tokens of a sheet: random, or laid out from a choice, or
-//! laid out and then moved a little.
+//! laid out and then moved a little. About one token in ten has none.
 
 use super::random::Random;
 use super::sheet::Sheet;
+use crate::build::NO_COLUMN;
 
 const LAST_COLUMN: usize = 4095;
+
+/// Any column, and once in ten none.
+pub fn any_column(random: &mut Random) -> u16 {
+    if random.one_in(10) {
+        NO_COLUMN
+    } else {
+        random.within(0, LAST_COLUMN) as u16
+    }
+}
 
 pub fn lay(random: &mut Random, sheet: &mut Sheet) {
     match random.below(6) {
@@ -17,6 +27,7 @@ pub fn lay(random: &mut Random, sheet: &mut Sheet) {
             }
         }
     }
+    take_away(random, sheet);
 }
 
 fn scatter(random: &mut Random, sheet: &mut Sheet) {
@@ -70,4 +81,32 @@ fn nudge(random: &mut Random, sheet: &mut Sheet) {
         2 | 3 => column.saturating_sub(1),
         _ => (*column + 1).min(LAST_COLUMN as u16),
     };
+}
+
+/// Takes the columns of some tokens away, in half of the sheets. Mostly those
+/// under = keep theirs, since one of them without a column leaves no choice.
+fn take_away(random: &mut Random, sheet: &mut Sheet) {
+    match random.below(10) {
+        0..=4 => {}
+        5..=7 => take_many(random, sheet, |relation| relation != 0),
+        8 => take_many(random, sheet, |_| true),
+        _ => take_one(random, sheet),
+    }
+}
+
+/// Every token that may lose its column by its relation, or one in so many.
+fn take_many(random: &mut Random, sheet: &mut Sheet, may_lose: impl Fn(u8) -> bool) {
+    let one_in = random.pick(&[1, 3, 10, 30]);
+    for (token, above) in sheet.tokens.iter_mut().zip(&sheet.above_tokens) {
+        if may_lose(above.relation) && random.one_in(one_in) {
+            token.1 = NO_COLUMN;
+        }
+    }
+}
+
+fn take_one(random: &mut Random, sheet: &mut Sheet) {
+    if !sheet.tokens.is_empty() {
+        let at = random.below(sheet.tokens.len());
+        sheet.tokens[at].1 = NO_COLUMN;
+    }
 }

@@ -1,5 +1,6 @@
 //! Damage: to the lists, with headers made right again, and to the bytes.
 
+use super::columns::any_column;
 use super::random::Random;
 use super::sheet::{Above, Sheet};
 use super::Made;
@@ -10,7 +11,7 @@ pub fn lists(random: &mut Random, sheet: &mut Sheet) {
     let productions = sheet.grammar.productions.len();
     let terminals = usize::from(sheet.grammar.terminals);
     let any_production = random.below(productions) as u16;
-    let any_token = (random.below(terminals) as u16, random.below(4096) as u16);
+    let any_token = (random.below(terminals) as u16, any_column(random));
     let node = random.below(sheet.tree.len().max(1));
     let token = random.below(sheet.tokens.len().max(1));
     let has_tokens = !sheet.tokens.is_empty();

@@ -3,6 +3,7 @@
 
 use super::random::Random;
 use super::sheet::{Production, Sheet, Symbol, NONTERMINAL, TERMINAL};
+use crate::build::NO_COLUMN;
 
 pub fn edge(random: &mut Random, sheet: &mut Sheet) {
     let past = random.below(2) as u16;
@@ -100,6 +101,7 @@ fn lists(random: &mut Random, sheet: &mut Sheet, past: u16) {
     if random.one_in(2) {
         sheet.tokens[token].0 = sheet.grammar.terminals - 1 + past;
     } else {
-        sheet.tokens[token].1 = 4095 + past;
+        // The columns end at 4,095, and only 65,535 is none.
+        sheet.tokens[token].1 = random.pick(&[4095 + past, NO_COLUMN - past]);
     }
 }

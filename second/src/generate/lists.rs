@@ -1,9 +1,9 @@
 //! Lists for the packers: what an image holds, or free numbers of any count
 //! around the limits.
 
+use super::columns::any_column;
 use super::random::Random;
-
-const LAST_COLUMN: u16 = 4095;
+use crate::build::NO_COLUMN;
 
 /// Production numbers of any size, which a packer does not judge.
 pub fn productions(random: &mut Random, tree: &[u8], list: &mut Vec<u16>) {
@@ -33,7 +33,7 @@ pub fn tokens(
     } else {
         let count = count(random);
         terminals.extend((0..count).map(|_| random.word() as u16));
-        columns.extend((0..count).map(|_| random.word() as u16 & LAST_COLUMN));
+        columns.extend((0..count).map(|_| any_column(random)));
     }
     if random.one_in(2) {
         spoil(random, columns);
@@ -61,7 +61,7 @@ fn count(random: &mut Random) -> usize {
     }
 }
 
-/// Columns around the last one, at some places.
+/// Columns around the last one and around 65,535, at some places.
 fn spoil(random: &mut Random, columns: &mut [u16]) {
     if columns.is_empty() {
         return;
@@ -73,7 +73,7 @@ fn spoil(random: &mut Random, columns: &mut [u16]) {
             _ => random.below(columns.len()),
         };
         let any = random.word() as u16;
-        columns[at] = random.pick(&[LAST_COLUMN, LAST_COLUMN, 4096, 4097, 32_768, 65_535, any]);
+        columns[at] = random.pick(&[4095, NO_COLUMN, 4096, 4097, 32_768, 65_534, any]);
     }
 }
 

@@ -1,5 +1,6 @@
 //! How often each call gave each number, so that a reader sees which were met.
 
+use crate::without_column::WithoutColumn;
 use std::fmt;
 
 #[derive(Clone, Copy)]
@@ -45,6 +46,7 @@ pub struct Tally {
     short: [u64; 2],
     /// Inputs whose tree was accepted or refused by 12, with many nodes.
     large: u64,
+    without_column: WithoutColumn,
 }
 
 impl Tally {
@@ -57,8 +59,10 @@ impl Tally {
         self.short[usize::from(!sets)] += 1;
     }
 
-    pub fn add_nodes(&mut self, nodes: usize) {
+    /// Counts an input that was accepted or refused by 12.
+    pub fn add_judged(&mut self, nodes: usize, [grammar, tokens, tree]: &[Vec<u8>; 3]) {
         self.large += u64::from(nodes > MANY_NODES);
+        self.without_column.add(grammar, tokens, tree);
     }
 
     pub fn join(&mut self, other: &Tally) {
@@ -67,6 +71,7 @@ impl Tally {
         }
         self.inputs += other.inputs;
         self.large += other.large;
+        self.without_column.join(&other.without_column);
         add(&mut self.short, &other.short);
         add(self.calls.as_flattened_mut(), other.calls.as_flattened());
     }
@@ -75,7 +80,8 @@ impl Tally {
         self.calls[call as usize][usize::from(number)]
     }
 
-    /// The numbers that a call can give and did not.
+    /// The numbers that a call can give and did not, and the relations that
+    /// met no token without a column.
     pub fn missing(&self) -> Vec<String> {
         let mut missing = Vec::new();
         for (call, name, numbers) in CALLS {
@@ -88,6 +94,7 @@ impl Tally {
                 missing.push(format!("check never gave 4 for {reason}"));
             }
         }
+        missing.extend(self.without_column.missing());
         missing
     }
 }
@@ -115,6 +122,7 @@ impl fmt::Display for Tally {
             f,
             "\nthe check's 4: {sets} by sets, {indentations} by indentations; \
              sets written for over {MANY_NODES} nodes: {large}"
-        )
+        )?;
+        writeln!(f, "{}", self.without_column)
     }
 }

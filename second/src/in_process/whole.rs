@@ -85,7 +85,7 @@ impl Whole {
         }
         turn.tally.add(Call::Check, given.number);
         match given.number {
-            0 | 12 => turn.tally.add_nodes(nodes),
+            0 | 12 => turn.tally.add_judged(nodes, turn.images),
             4 => {
                 turn.tally.add_short(lending.sets < 2 * nodes);
                 let enough = Lending {
