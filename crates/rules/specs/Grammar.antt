@@ -23,9 +23,11 @@ pub record Token : Type 0 where
 abbrev pub noColumn : ℕ
 noColumn = 65535
 
+-- a token without a column
 abbrev pub NoColumn : Token → Type 0
 NoColumn t = t .column ≡ noColumn
 
+-- and one with a column
 abbrev pub HasColumn : Token → Type 0
 HasColumn t = NoColumn t → ⊥
 
