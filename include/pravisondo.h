@@ -37,8 +37,8 @@ extern "C" {
  * for no upper bound. An empty set is stored as low 1, high 0, and in no other set is high below low. */
 #define PRAVISONDO_NO_UPPER_BOUND 4294967295u
 
-/* What a token has for its column, 0 to 4,095, where the lexer is to ignore its indentation, as on a joined line. Such a
- * token satisfies >, >= and free against every indentation, and = against none. */
+/* A token's column is 0 to 4,095, or this where the lexer is to ignore its indentation, as on a joined line: no column.
+ * Such a token satisfies >, >= and free against every indentation, and = against none. */
 #define PRAVISONDO_NO_COLUMN 65535u
 
 /* The numbers of the answers. D is the number of nodes of the tree image and K that of tokens of the token image;
