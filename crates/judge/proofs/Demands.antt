@@ -6,7 +6,7 @@ use mathlib.Core.List.{List, map}
 use Prim.Native.Nat.{ℕ, _+_, _-_, _*_, _<_, _≤_}
 use lib.ListN.{length, getD, take, drop}
 use Rattle.rules.specs.Limits.{maxDepth, maxIndentation}
-use Rattle.rules.specs.Derivation.{Right}
+use Rattle.rules.specs.Derivation.{Right, Derives}
 use Rattle.rules.specs.Tree.{Tree}
 use Rattle.rules.specs.Walk.{Answer, answer}
 use Rattle.rules.specs.Grammar.{Production, ColumnsUpTo}
@@ -18,7 +18,7 @@ use Rattle.rules.proofs.Shapes.{lemma-4}
 use Rattle.rules.proofs.Subtrees.{empty-above}
 use Rattle.fields.specs.Fields.{Bytes, WellFormed}
 use Rattle.fields.specs.Images.{Images}
-use Rattle.grammar_image.specs.GrammarImage.{productionAt}
+use Rattle.grammar_image.specs.GrammarImage.{startNonterminal, productionAt}
 use Rattle.token_image.specs.TokenImage.{tokensOf, tokenFields}
 use Rattle.tree_image.specs.TreeImage.{nodeCount, nodesOf, treeFields}
 use Rattle.packers.specs.declared.Packed.{Packed}
@@ -124,7 +124,8 @@ module _ {s : Images} {old new : Lists} {a : Answer} (j : Judged s old a new) wh
 
   -- for the makers: a tree in which a token without a column stands at = anywhere is not accepted, whatever the other
   -- columns are
-  pub no-column-refused : (d : DerivesIn s) → NoColumnAtEqual G (d .derives .tree) → a .number ≡ 0 → ⊥
+  pub no-column-refused : (d : Derives G (startNonterminal (s .grammar)) (nodesOf (s .tree)) (tokensOf (s .tokens))) →
+      NoColumnAtEqual G (d .tree) → a .number ≡ 0 → ⊥
   no-column-refused = meaning.no-column-refused j
 
   -- no entry exceeds the greatest column of the tokens that have one by more than the depth allows

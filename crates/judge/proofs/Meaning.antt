@@ -191,8 +191,11 @@ module _ {s : Images} {old new : Lists} {a : Answer} (j : Judged s old a new) wh
   refused-unlaid f d other = verdicts.none-chosen _ _ _ _ _ (j .verdict) (none-refuses s _ f d) other (d .derives)
 
   -- a token without a column at =: no choice exists, so it is not accepted
-  pub no-column-refused : (d : DerivesIn s) → NoColumnAtEqual G (d .derives .tree) → a .number ≡ 0 → ⊥
-  no-column-refused d h z = let l = least z d in no-column-unlaid G (d .derives .tree) h (l .choice) (l .laid)
+  pub no-column-refused : (d : Derives G (startNonterminal grammar) (nodesOf tree) (tokensOf tokens)) → NoColumnAtEqual G (d .tree) → a .number ≡ 0 → ⊥
+  no-column-refused d h z =
+      let lays = verdicts.accepted-lays _ _ _ _ _ (j .verdict) z in
+      let same = one-tree G (startNonterminal grammar) (nodesOf tree) (tokensOf tokens) (lays .0) d in
+      no-column-unlaid G (lays .0 .tree) (rw same h) (lays .1 .choice) (lays .1 .laid)
 
   -- no indentation is above the greatest column of the tokens that have one by more than the depth allows
   pub zero-near : a .number ≡ 0 → (M : ℕ) → ColumnsUpTo M (tokensOf tokens) → (n : ℕ) → n < D → getD newIndentations n 0 ≤ M + rise * (maxDepth - 1)

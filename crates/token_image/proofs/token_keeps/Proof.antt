@@ -2,7 +2,8 @@
 use borrow.Author.Needs.{needs}
 use native.Mathlib.Omega.{arith}
 use mathlib.Core.Path.{_≡_, ap, _∙_}
-use Prim.Native.Nat.{_+_, _*_}
+use Prim.Native.Nat.{ℕ}
+use lib.Dec.{ltb}
 use denote.Ref.{now}
 use Rattle.rules.specs.Limits.{columnAllowed}
 use Rattle.fields.specs.Fields.{fieldAt}
@@ -33,16 +34,14 @@ unfolding recordFields
 returns c =
     let a = c .before .before .before .args in
     let which : a .f ≡ 0 = c .match .keys1 in
-    let at : 6 + 4 * a .k + 2 * a .f ≡ 6 + 4 * a .k = omega arith in
-    rw which (cc)
+    rw which (ap (λ (value : ℕ). ltb value (a .terminals)) (c .before .field-at .ensures ∙ ap (fieldAt (now (a .image))) (omega arith)))
 
 returns-2 : tie.Need-returns-2
 unfolding recordFields
 returns-2 c =
     let a = c .before .before .before .before .args in
     let which : a .f ≡ 1 = omega (arith, c .before .match .rest .1) in
-    let at : 6 + 4 * a .k + 2 * a .f ≡ 6 + 4 * a .k + 2 = omega arith in
-    rw which (c .column-allowed .ensures ∙ ap columnAllowed (c .before .before .field-at .ensures ∙ ap (fieldAt (now (a .image))) at))
+    rw which (c .column-allowed .ensures ∙ ap columnAllowed (c .before .before .field-at .ensures ∙ ap (fieldAt (now (a .image))) (omega arith)))
 
 pub token-keeps-spec : {M : Type 1} → statement M
 token-keeps-spec =
