@@ -1,7 +1,8 @@
 //! The check of the derivation alone: the table's number and place before the
 //! sets, and 0 0 where the whole check gives 0 or 12.
 
-use super::{cut_sheet_a, sheet_a, Changes, Trials};
+use super::refusals::{FAULTS, LENGTHS};
+use super::{cut_sheet_a, sheet_a, Trials};
 use crate::build::{token_image, tree_image, trial, A_TOKENS, A_TREE, DAY, HOUR, ITEM, NO_COLUMN};
 use crate::subject::Subject;
 
@@ -84,34 +85,6 @@ const HOURS: [(&str, usize); 2] = [
     ("254 hours, depth 257: 9 762", 254),
 ];
 
-/// A line, and the fields of grammar, token and tree image that are changed.
-/// A relation and a column are tested as fields, though nothing is asked of
-/// them later. Relation 4 is 1,024 as one field with kind 0.
-const FAULTS: [(&str, [Changes; 3]); 9] = [
-    (
-        "All three counts: 1 0",
-        [&[(0, 0)], &[(0, 4097)], &[(0, 0)]],
-    ),
-    (
-        "last symbol, token and node: 1 82",
-        [&[(82, 4)], &[(18, 3)], &[(22, 6)]],
-    ),
-    ("first relation 4: 1 53", [&[(52, 1024)], &[], &[]]),
-    ("token and node count: 2 0", [&[], &[(0, 4097)], &[(0, 0)]]),
-    ("last token and node: 2 18", [&[], &[(18, 3)], &[(22, 6)]]),
-    ("last column: 2 20", [&[], &[(20, 4096)], &[]]),
-    ("last column 65,534: 2 20", [&[], &[(20, 65_534)], &[]]),
-    ("node count: 3 0", [&[], &[], &[(0, 0)]]),
-    ("last node: 3 22", [&[], &[], &[(22, 6)]]),
-];
-
-/// A line, and the lengths that grammar, token and tree image are cut to.
-const LENGTHS: [(&str, [usize; 3]); 3] = [
-    ("15, 5 and 5 bytes: 1 15", [15, 5, 5]),
-    ("84, 5 and 5 bytes: 2 5", [84, 5, 5]),
-    ("84, 22 and 5 bytes: 3 5", [84, 22, 5]),
-];
-
 pub fn run(subject: &Subject, trials: &mut Trials) {
     let mut derived = |line: &str, [grammar, tokens, tree]: [Vec<u8>; 3]| {
         trials.line(line, (subject.derive)(&grammar, &tokens, &tree));
@@ -124,6 +97,8 @@ pub fn run(subject: &Subject, trials: &mut Trials) {
         let tree = [vec![0], [1, 3, 5].repeat(hours), vec![2]].concat();
         derived(line, [trial(), token_image(&tokens), tree_image(&tree)]);
     }
+    // A relation and a column are tested as fields, though nothing is asked of
+    // them later.
     for (line, [grammar, tokens, tree]) in FAULTS {
         derived(line, sheet_a(grammar, tokens, tree));
     }

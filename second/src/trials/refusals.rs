@@ -8,10 +8,10 @@ use crate::subject::Subject;
 /// Room for the sets and the indentations of every tree, and some more.
 const ROOM: [usize; 2] = [8200, 4100];
 
-/// A line, and the fields of grammar, token and tree image that are changed;
-/// no entries are lent. Sheet A's own fields are 3 terminals, 4 tokens and 9
-/// nodes, at byte 0 of each image.
-const FAULTS: [(&str, [Changes; 3]); 8] = [
+/// A line, and the fields of grammar, token and tree image that are changed.
+/// Sheet A's own fields are 3 terminals, 4 tokens and 9 nodes, at byte 0 of
+/// each image. Relation 4 is 1,024 as one field with kind 0.
+pub const FAULTS: [(&str, [Changes; 3]); 9] = [
     (
         "All three counts: 1 0",
         [&[(0, 0)], &[(0, 4097)], &[(0, 0)]],
@@ -20,6 +20,7 @@ const FAULTS: [(&str, [Changes; 3]); 8] = [
         "last symbol, token and node: 1 82",
         [&[(82, 4)], &[(18, 3)], &[(22, 6)]],
     ),
+    ("first relation 4: 1 53", [&[(52, 1024)], &[], &[]]),
     ("token and node count: 2 0", [&[], &[(0, 4097)], &[(0, 0)]]),
     ("last token and node: 2 18", [&[], &[(18, 3)], &[(22, 6)]]),
     ("last column: 2 20", [&[], &[(20, 4096)], &[]]),
@@ -29,7 +30,7 @@ const FAULTS: [(&str, [Changes; 3]); 8] = [
 ];
 
 /// A line, and the lengths that grammar, token and tree image are cut to.
-const LENGTHS: [(&str, [usize; 3]); 7] = [
+pub const LENGTHS: [(&str, [usize; 3]); 7] = [
     ("15, 5 and 5 bytes: 1 15", [15, 5, 5]),
     ("84, 5 and 5 bytes: 2 5", [84, 5, 5]),
     ("84, 22 and 5 bytes: 3 5", [84, 22, 5]),
