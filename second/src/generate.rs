@@ -13,7 +13,7 @@ pub mod random;
 mod sheet;
 
 use crate::delivery::cut;
-use growth::{grow, Aim};
+use growth::{grow, Aim, MOST_DEPTH};
 use random::Random;
 use sheet::Sheet;
 
@@ -63,7 +63,8 @@ fn any_sheet(random: &mut Random) -> Sheet {
         15..=39 => deep(random),
         40..=59 => hours(random),
         60..=74 => many_productions(random),
-        75..=299 => {
+        75..=84 => long_rows(random),
+        85..=299 => {
             let aim = Aim::Any {
                 nodes: random.within(1, 40),
                 depth: random.within(2, 40),
@@ -114,23 +115,41 @@ fn large(random: &mut Random) -> Sheet {
     grow(random, grammar, Aim::Counted { nodes, tokens })
 }
 
-/// Around the greatest depth.
+/// Around the greatest depth, or anywhere below it.
 fn deep(random: &mut Random) -> Sheet {
     let nonterminals = random.within(1, 8);
-    let longest = random.pick(&[1, 1, 2, 3, 6]);
+    // Rows of four children fit at every level.
+    let longest = random.pick(&[1, 1, 2, 3, 4]);
     let mut grammar = grammars::spine(random, nonterminals, longest);
     if nonterminals > 1 && random.one_in(4) {
         grammars::steepen(random, &mut grammar);
     }
     let depth = if random.one_in(3) {
-        random.within(90, 256)
+        random.within(90, MOST_DEPTH)
     } else {
-        random.pick(&[255, 256, 256, 256, 257, 300])
+        near_the_limit(random)
     };
     let mut sheet = grow(random, grammar, Aim::Spine { depth });
-    if depth > 256 && random.one_in(4) {
+    if depth > MOST_DEPTH && random.one_in(4) {
         spoil_too_deep(random, &mut sheet);
     }
+    sheet
+}
+
+/// A depth at the limit, one off either way, or well beyond it.
+fn near_the_limit(random: &mut Random) -> usize {
+    let most = MOST_DEPTH;
+    random.pick(&[most - 1, most, most, most, most + 1, most + 44])
+}
+
+/// The deepest trees with rows of 16, as many as fit. Two in three are steep:
+/// each level stands right of the one above, from the last column on.
+fn long_rows(random: &mut Random) -> Sheet {
+    let steep = !random.one_in(3);
+    let grammar = grammars::rows(random, steep);
+    let depth = near_the_limit(random);
+    let mut sheet = grow(random, grammar, Aim::Rows { depth });
+    sheet.base = steep.then_some(columns::LAST_COLUMN);
     sheet
 }
 
@@ -141,7 +160,7 @@ fn spoil_too_deep(random: &mut Random, sheet: &mut Sheet) {
     for (node, above) in sheet.above_nodes.iter().enumerate() {
         depths.push(if node == 0 { 1 } else { depths[above.node] + 1 });
     }
-    let Some(node) = depths.iter().position(|&depth| depth > 256) else {
+    let Some(node) = depths.iter().position(|&depth| depth > MOST_DEPTH) else {
         return;
     };
     if random.one_in(3) {
@@ -158,7 +177,7 @@ fn spoil_too_deep(random: &mut Random, sheet: &mut Sheet) {
 
 /// A trial sheet of many hours without items, some at the greatest depth.
 fn hours(random: &mut Random) -> Sheet {
-    let hours = random.pick(&[120, 200, 252, 253, 253, 253, 254, 255, 300]);
+    let hours = random.pick(&[120, 300, 1020, 1021, 1021, 1021, 1022, 1023, 1300]);
     let mut sheet = grow(random, grammars::trial(), Aim::Any { nodes: 1, depth: 1 });
     // The tree is 0 2 so far, a day without hours; the hours go before the 2.
     let above = |node, relation| sheet::Above { node, relation };

@@ -10,7 +10,7 @@ mod walk;
 use images::Images;
 pub use packing::{pack_tokens, pack_tree};
 pub use reading::{Reading, Right};
-use walk::{Note, NO_BOUND};
+use walk::{Note, Sight, NO_BOUND};
 
 const MOST_NODES: usize = 4096;
 
@@ -39,15 +39,14 @@ pub fn derive(grammar: &[u8], tokens: &[u8], tree: &[u8]) -> (u8, usize) {
     }
 }
 
-/// How many tokens without a column stand under each relation, by its number,
-/// as far as the walk comes.
-pub fn without_column(grammar: &[u8], tokens: &[u8], tree: &[u8]) -> [u64; 4] {
-    let mut counts = [0; 4];
+/// What a comparison counts on a sheet, as far as the walk comes.
+pub fn sight(grammar: &[u8], tokens: &[u8], tree: &[u8]) -> Sight {
+    let mut sight = Sight::default();
     if let Ok(images) = Images::read::<Right>(grammar, tokens, tree) {
-        // Tokens before a refusal are counted as well.
-        let _ = walk::derive::<Right, _>(&images, &mut counts);
+        // What stands before a refusal is counted as well.
+        let _ = walk::derive::<Right, _>(&images, &mut sight);
     }
-    counts
+    sight
 }
 
 /// Number and place for a grammar image alone.

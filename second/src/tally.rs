@@ -3,11 +3,11 @@
 
 use crate::definition;
 use crate::delivery;
-use crate::without_column::WithoutColumn;
+use crate::met::Met;
 use std::fmt;
 
 const ANSWERS: usize = 13;
-const DEEP: usize = 100;
+const DEEP: usize = 256;
 const MANY_NODES: usize = 1000;
 
 #[derive(Clone, Copy, Default)]
@@ -20,7 +20,7 @@ struct Counts {
 #[derive(Default)]
 pub struct Tally {
     answers: [Counts; ANSWERS],
-    without_column: WithoutColumn,
+    met: Met,
 }
 
 impl Tally {
@@ -40,7 +40,7 @@ impl Tally {
             counts.large += u64::from(shape.nodes > MANY_NODES);
         }
         if let Some(0 | 12) = number {
-            self.without_column.add(grammar, tokens, tree);
+            self.met.add(grammar, tokens, tree);
         }
     }
 
@@ -50,7 +50,7 @@ impl Tally {
             mine.deep += theirs.deep;
             mine.large += theirs.large;
         }
-        self.without_column.join(&other.without_column);
+        self.met.join(&other.met);
     }
 
     pub fn inputs(&self) -> u64 {
@@ -58,13 +58,13 @@ impl Tally {
     }
 
     /// Answers that should have been met and were not, and 4 if it was: the
-    /// lists that a program lends are always long enough. And relations that
-    /// met no token without a column.
+    /// lists that a program lends are always long enough. And what the judged
+    /// sheets should have had and had not.
     pub fn faults(&self) -> Vec<String> {
         (0..ANSWERS)
             .filter(|&number| (self.answers[number].inputs == 0) != (number == 4))
             .map(|number| format!("answer {number}: {} inputs", self.answers[number].inputs))
-            .chain(self.without_column.missing())
+            .chain(self.met.missing())
             .collect()
     }
 }
@@ -86,6 +86,6 @@ impl fmt::Display for Tally {
         let all = |of: fn(&Counts) -> u64| self.answers.iter().map(of).sum::<u64>();
         let (inputs, deep, large) = (all(|c| c.inputs), all(|c| c.deep), all(|c| c.large));
         writeln!(f, "   all   {inputs:>6}   {deep:>15}   {large:>15}")?;
-        writeln!(f, "{}", self.without_column)
+        writeln!(f, "{}", self.met)
     }
 }

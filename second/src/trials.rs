@@ -1,12 +1,13 @@
 //! Fixed calls with answers written by hand from documents 01 and 02, for what
 //! only a call can show: the checks of a single image, both packers, the check
-//! with lists that are too short or with tokens that have no column, and the
-//! check of the derivation alone.
+//! with lists that are too short, with tokens that have no column or with the
+//! deepest trees, and the check of the derivation alone.
 //!
 //! A trial is a line of what has to come back: a label, then number and place;
 //! for a packer also the length, for the check what it wrote to the two lists.
 //! How many other entries changed is told where any did, which is in no line.
 
+mod deep;
 mod derivation;
 mod grammar;
 mod limits;
@@ -40,6 +41,7 @@ pub fn run(subject: &Subject) -> Trials {
     packing::run(subject, &mut trials);
     refusals::run(subject, &mut trials);
     no_column::run(subject, &mut trials);
+    deep::run(subject, &mut trials);
     derivation::run(subject, &mut trials);
     trials
 }
@@ -105,6 +107,39 @@ impl Trials {
             }
         }
         given += &outside(sets.outside(named[0]) + indentations.outside(named[1]));
+        self.line(line, given);
+    }
+
+    /// The check with room for every node: number and place, and whether both
+    /// lists are as due, where each node has a set and an indentation.
+    fn lists(
+        &mut self,
+        subject: &Subject,
+        line: &str,
+        [grammar, tokens, tree]: [Vec<u8>; 3],
+        due: Vec<([u32; 2], u32)>,
+    ) {
+        const ROOM: usize = 4096;
+        let [mut sets, mut indentations] = [Lent::default(), Lent::default()];
+        let answer = (subject.check)(
+            &grammar,
+            &tokens,
+            &tree,
+            sets.lend(2 * ROOM, MARK),
+            indentations.lend(ROOM, MARK),
+        );
+        let mut given = answer.to_string();
+        if answer.number == 0 {
+            let node = |n: usize| {
+                let part = sets.part();
+                ([part[2 * n], part[2 * n + 1]], indentations.part()[n])
+            };
+            given += &match (0..due.len()).find(|&n| node(n) != due[n]) {
+                None => ", both lists as due".to_string(),
+                Some(n) => format!(", node {n} has {:?}, {:?} is due", node(n), due[n]),
+            };
+        }
+        given += &outside(sets.outside(2 * due.len()) + indentations.outside(due.len()));
         self.line(line, given);
     }
 }

@@ -111,14 +111,14 @@ fn chain() -> Vec<u8> {
 
 #[test]
 fn order_within_the_walk() {
-    // Node 256 would be too deep and has the wrong left side: 5 comes first.
-    let tokens = token_image(&[(0, 0); 256]);
-    let deep = [vec![0; 256], vec![2]].concat();
-    expect(&chain(), &tokens, &tree_image(&deep), (5, 256));
-    let deep = [vec![0; 256], vec![1]].concat();
-    expect(&chain(), &tokens, &tree_image(&deep), (9, 256));
+    // Node 1,024 would be too deep and has the wrong left side: 5 comes first.
+    let tokens = token_image(&[(0, 0); 1024]);
+    let deep = [vec![0; 1024], vec![2]].concat();
+    expect(&chain(), &tokens, &tree_image(&deep), (5, 1024));
+    let deep = [vec![0; 1024], vec![1]].concat();
+    expect(&chain(), &tokens, &tree_image(&deep), (9, 1024));
     // No node is left where one would be too deep: 6.
-    expect(&chain(), &tokens, &tree_image(&[0; 256]), (6, 256));
+    expect(&chain(), &tokens, &tree_image(&[0; 1024]), (6, 1024));
     // The wrong token comes before the wrong node further on.
     expect(
         &chain(),

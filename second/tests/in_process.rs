@@ -37,15 +37,22 @@ fn the_right_versions_are_not_found() {
     assert_eq!((tally.inputs, differences), (2000, 0));
 }
 
-/// A run in which a relation meets no token without a column is not enough.
+/// A run in which a relation meets no token without a column, or in which no
+/// deep tree is judged, is not enough.
 #[test]
-fn relations_without_such_a_token_are_told() {
+fn what_was_not_met_is_told() {
     let missing = Tally::default().missing();
     let faults = second::tally::Tally::default().faults();
-    for relation in ["=", ">", "≥", "free"] {
-        let line = format!("{relation} never met a token without a column");
-        assert!(missing.contains(&line) && faults.contains(&line), "{line}");
+    let relations = ["=", ">", "≥", "free"];
+    let relations =
+        relations.map(|relation| format!("{relation} never met a token without a column"));
+    let depths = ["deeper than 256", "1024 deep"];
+    let depths = depths.map(|depth| format!("no tree {depth} was judged"));
+    for line in relations.iter().chain(&depths) {
+        assert!(missing.contains(line) && faults.contains(line), "{line}");
     }
+    let greatest = "no indentation of 5118 was returned".to_string();
+    assert!(missing.contains(&greatest));
 }
 
 /// `plain` with another reading of the rules.
@@ -114,6 +121,26 @@ fn relations_of_a_token_without_a_column() {
         }
     }
     found(read::<FreeFails>("no free relation without a column"));
+}
+
+/// The depth before it was raised, and limits that are one off.
+#[test]
+fn another_depth() {
+    struct Shallow;
+    impl Reading for Shallow {
+        const DEEPEST: usize = 256;
+    }
+    found(read::<Shallow>("a depth of 256"));
+    struct OneLess;
+    impl Reading for OneLess {
+        const DEEPEST: usize = 1023;
+    }
+    found(read::<OneLess>("a depth of 1,023"));
+    struct OneMore;
+    impl Reading for OneMore {
+        const DEEPEST: usize = 1025;
+    }
+    found(read::<OneMore>("a depth of 1,025"));
 }
 
 #[test]

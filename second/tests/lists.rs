@@ -44,8 +44,8 @@ fn short_lists_come_after_the_images_and_before_the_walk() {
 #[test]
 fn refusals_leave_both_lists_alone() {
     let day = token_image(&[(DAY, 1)]);
-    let deep = [vec![0], [1, 3, 5].repeat(254), vec![2]].concat();
-    let deep_tokens = [vec![(DAY, 1)], vec![(HOUR, 3); 254]].concat();
+    let deep = [vec![0], [1, 3, 5].repeat(1022), vec![2]].concat();
+    let deep_tokens = [vec![(DAY, 1)], vec![(HOUR, 3); 1022]].concat();
     let two = token_image(&[(DAY, 1), (HOUR, 3)]);
     let short = vec![0; 3];
     let cases = [

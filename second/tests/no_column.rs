@@ -74,7 +74,7 @@ fn no_relation_forgives() {
 }
 
 /// S → a= C>; C → a> C>; C → a≥. With the first a at 4,095 and no column at
-/// the other 255, each node stands one further in, up to 4,350.
+/// the other 1,023, each node stands one further in, up to 5,118.
 #[test]
 fn no_bound_on_the_greatest_indentation() {
     let grammar = grammar(
@@ -86,14 +86,14 @@ fn no_bound_on_the_greatest_indentation() {
             (1, vec![(0, 2, 0)]),
         ],
     );
-    let columns = [vec![4095], vec![NO_COLUMN; 255]].concat();
-    let tree = [vec![0], vec![1; 254], vec![2]].concat();
+    let columns = [vec![4095], vec![NO_COLUMN; 1023]].concat();
+    let tree = [vec![0], vec![1; 1022], vec![2]].concat();
     for (name, check) in CHECKS {
         let outcome = run(check, &grammar, &tokens(&columns), &tree_image(&tree));
         assert_eq!(outcome.answer, (0, 0), "{name}");
-        let expected: Vec<u32> = (4095..=4350).collect();
-        assert_eq!(outcome.indentations[..256], expected, "{name}");
-        assert_eq!(outcome.sets[2..512], ALL.repeat(255), "{name}");
+        let expected: Vec<u32> = (4095..=5118).collect();
+        assert_eq!(outcome.indentations[..1024], expected, "{name}");
+        assert_eq!(outcome.sets[2..2048], ALL.repeat(1023), "{name}");
     }
 }
 

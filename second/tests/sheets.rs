@@ -80,19 +80,19 @@ fn hours(count: usize) -> (Vec<u8>, Vec<u8>) {
 #[test]
 fn many_hours() {
     for (name, check) in CHECKS {
-        let (tokens, tree) = hours(253);
+        let (tokens, tree) = hours(1021);
         let outcome = run(check, &trial(), &tokens, &tree);
         assert_eq!(outcome.answer, (0, 0), "{name}");
-        let expected = [vec![1], [3, 3, 4].repeat(253), vec![3]].concat();
-        assert_eq!(outcome.indentations[..761], expected, "{name}");
-        let (tokens, tree) = hours(254);
+        let expected = [vec![1], [3, 3, 4].repeat(1021), vec![3]].concat();
+        assert_eq!(outcome.indentations[..3065], expected, "{name}");
+        let (tokens, tree) = hours(1022);
         let outcome = run(check, &trial(), &tokens, &tree);
-        assert_eq!(outcome.answer, (9, 762), "{name}");
+        assert_eq!(outcome.answer, (9, 3066), "{name}");
     }
 }
 
-/// S → a= C>; C → C>; C → nothing. With a at 4,095 and 255 nodes below, each
-/// stands one further in, up to 4,350.
+/// S → a= C>; C → C>; C → nothing. With a at 4,095 and 1,023 nodes below, each
+/// stands one further in, up to 5,118.
 #[test]
 fn greatest_indentation() {
     let grammar = grammar(
@@ -104,13 +104,13 @@ fn greatest_indentation() {
             (1, vec![]),
         ],
     );
-    let tree = [vec![0], vec![1; 254], vec![2]].concat();
+    let tree = [vec![0], vec![1; 1022], vec![2]].concat();
     for (name, check) in CHECKS {
         let tokens = token_image(&[(0, 4095)]);
         let outcome = run(check, &grammar, &tokens, &tree_image(&tree));
         assert_eq!(outcome.answer, (0, 0), "{name}");
-        let expected: Vec<u32> = (4095..=4350).collect();
-        assert_eq!(outcome.indentations[..256], expected, "{name}");
+        let expected: Vec<u32> = (4095..=5118).collect();
+        assert_eq!(outcome.indentations[..1024], expected, "{name}");
         assert_eq!(outcome.sets[..4], [4095, 4095, 0, u32::MAX], "{name}");
     }
 }

@@ -100,7 +100,7 @@ module _ {s : Images} {old new : Lists} {a : Answer} (j : Judged s old a new) wh
       × (drop (2 * D) (new .sets) ≡ drop (2 * D) (old .sets))
   sets-say = meaning.sets-written j
 
-  -- 3. "With well-formed images, room, and a tree at most 256 deep: accepted exactly if the tree derives the whole
+  -- 3. "With well-formed images, room, and a tree at most 1,024 deep: accepted exactly if the tree derives the whole
   -- token list and whole numbers can be given to all its nodes so that every relation holds": if
   pub accepted-if : Fitting s (entriesOf old) → (d : DerivesIn s) (C : Choice) → Laid G (d .derives .tree) C →
       a ≡ answer 0 0
@@ -133,6 +133,6 @@ module _ {s : Images} {old new : Lists} {a : Answer} (j : Judged s old a new) wh
       (n : ℕ) → n < D → getD (new .indentations) n 0 ≤ M + rise * (maxDepth - 1)
   indentations-near = meaning.zero-near j
 
-  -- so "no entry exceeds 4,350"
+  -- so "The greatest indentation that may be returned becomes 5,118"
   pub indentations-small : a .number ≡ 0 → (n : ℕ) → n < D → getD (new .indentations) n 0 ≤ maxIndentation
   indentations-small = meaning.zero-small j

@@ -83,7 +83,7 @@ pub record Fitting (s : Images) (lent : Entries) : Type 0 where
   pub setsRoom : 2 * nodeCount (s .tree) ≤ lent .sets
   pub indentationsRoom : nodeCount (s .tree) ≤ lent .indentations
 
--- the nodes of the tree image derive all tokens of the token image, by "a tree at most 256 deep"
+-- the nodes of the tree image derive all tokens of the token image, by "a tree at most 1,024 deep"
 abbrev pub DerivesIn : Images → Type 0
 DerivesIn s =
     DerivesWithin maxDepth (productionAt (s .grammar)) (startNonterminal (s .grammar)) (nodesOf (s .tree))

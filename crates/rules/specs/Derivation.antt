@@ -72,7 +72,7 @@ pub record Derives (G : ℕ → Production) (start : ℕ) (ns : List ℕ) (ts : 
   pub listed : nodes tree ≡ ns
   pub read : tokens tree ≡ ts
 
--- "a tree at most 256 deep", for any limit
+-- "a tree at most 1,024 deep", for any limit
 pub record DerivesWithin (limit : ℕ) (G : ℕ → Production) (start : ℕ) (ns : List ℕ) (ts : List Token) : Type 0 where
   pub derives : Derives G start ns ts
   pub deep : depth (derives .tree) ≤ limit

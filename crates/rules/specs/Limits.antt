@@ -34,9 +34,9 @@ abbrev pub maxNodes : ℕ
 maxNodes = 4096
 
 abbrev pub maxDepth : ℕ
-maxDepth = 256
+maxDepth = 1024
 
--- "With the limits below no entry exceeds 4,350": the root's least indentation is at most the greatest column of the
+-- "The greatest indentation that may be returned": the root's least indentation is at most the greatest column of the
 -- tokens that have one, and each level below it may rise
 abbrev pub maxIndentation : ℕ
 maxIndentation = maxColumn + rise * (maxDepth - 1)

@@ -55,7 +55,7 @@ unfoldable pub rowDue : List Token → (ℕ → ℕ → ℕ → Walked) → List
 rowDue ts below [] n k = used n k
 rowDue ts below (s ∷ ss) n k = andThen (symbolDue ts below s n k) (rowDue ts below ss)
 
--- the nonterminal A is due, with so many levels left: a node with no level left is "deeper than 256", and any other's
+-- the nonterminal A is due, with so many levels left: a node with no level left is "deeper than 1,024", and any other's
 -- row follows
 unfoldable pub nodeDue : (ℕ → Production) → List ℕ → List Token → ℕ → ℕ → ℕ → ℕ → Walked
 nodeDue G ns ts zero A n k = nodeMet G ns A n (refused (answer 9 n))

@@ -32,7 +32,7 @@ pub const NO_COLUMN: u16 = 65535;
 pub const NODES: u16 = 4096;
 
 // The depth of a tree, with 1 for the root.
-pub const DEPTH: u16 = 256;
+pub const DEPTH: u16 = 1024;
 
 // Whether a token may have this column, or none.
 pub fn column_allowed(column: u16) -> bool

@@ -5,7 +5,7 @@
 use super::images::{Column, Images, Kind, Symbol};
 use super::relation::Relation;
 
-const MOST_DEPTH: usize = 256;
+pub const MOST_DEPTH: usize = 1024;
 
 /// A node with its children, each under its relation.
 pub struct Node {

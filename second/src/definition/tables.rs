@@ -16,14 +16,14 @@
 //! number above 4,095, and "some j above `TOP`" is the same question as
 //! whether `TOP` itself is in.
 
-use super::derivation::{Child, Node};
+use super::derivation::{Child, Node, MOST_DEPTH};
 use super::relation::Relation;
 
 const LAST_COLUMN: usize = 4095;
 
-/// Above every column, and above every least indentation (at most 4,350), so
+/// Above every column, and above every least indentation (at most 5,118), so
 /// that the entries just below it show whether the argument above is kept.
-const TOP: usize = LAST_COLUMN + 256 + 1;
+const TOP: usize = LAST_COLUMN + MOST_DEPTH + 1;
 
 type Table = Vec<bool>;
 

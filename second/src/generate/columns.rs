@@ -1,11 +1,12 @@
 //! Columns for the tokens of a sheet: random, or laid out from a choice, or
 //! laid out and then moved a little. About one token in ten has none.
 
+use super::growth::MOST_DEPTH;
 use super::random::Random;
 use super::sheet::Sheet;
 use crate::build::NO_COLUMN;
 
-const LAST_COLUMN: usize = 4095;
+pub const LAST_COLUMN: usize = 4095;
 
 /// Any column, and once in ten none.
 pub fn any_column(random: &mut Random) -> u16 {
@@ -41,13 +42,13 @@ fn scatter(random: &mut Random, sheet: &mut Sheet) {
 /// column by its relation to its node, so that these numbers are a choice
 /// wherever the columns do not run out.
 fn lay_out(random: &mut Random, sheet: &mut Sheet) {
-    let base = match random.below(5) {
+    let base = sheet.base.unwrap_or_else(|| match random.below(5) {
         0 => 0,
         1 => random.below(10),
         2 => random.below(3000),
-        3 => random.within(3800, LAST_COLUMN),
-        _ => random.pick(&[1, LAST_COLUMN - 256, LAST_COLUMN - 1, LAST_COLUMN]),
-    };
+        3 => random.within(3000, LAST_COLUMN),
+        _ => random.pick(&[1, LAST_COLUMN - MOST_DEPTH, LAST_COLUMN - 1, LAST_COLUMN]),
+    });
     let slack = random.pick(&[0, 0, 1, 3]);
     let step = |random: &mut Random, relation: u8, i: usize| match relation {
         0 => i,

@@ -173,6 +173,66 @@ pub fn steepen(random: &mut Random, grammar: &mut Grammar) {
     }
 }
 
+/// The nonterminals of a `rows` grammar.
+pub const TOP: usize = 0;
+pub const NOTHING: usize = 1;
+const ROW: u16 = 2;
+
+/// What stands beside the next Row in a row of 16.
+pub const BESIDE: usize = 15;
+
+/// A grammar of a Top over a chain of Rows, for deep trees with rows of 16.
+/// By number: a Top, a Nothing, a Row that is the last, one with 15 tokens
+/// beside the next Row, one with 15 Nothings, and one with neither. In a steep
+/// one the indentations can pass the last column, as in one that `steepen`
+/// changed.
+pub fn rows(random: &mut Random, steep: bool) -> Grammar {
+    let terminals = random.within(1, 4);
+    let palette = Palette::new(random, terminals, 3);
+    let chained = |random: &mut Random, mut row: Vec<Symbol>| {
+        let relation = if steep {
+            1
+        } else {
+            random.pick(palette.relations)
+        };
+        let at = random.below(row.len() + 1);
+        row.insert(at, symbol(NONTERMINAL, relation, ROW));
+        row
+    };
+    let tokens = |random: &mut Random, count| {
+        let mut row = palette.row(random, 0, count);
+        row.iter_mut()
+            .filter(|_| steep)
+            .for_each(|symbol| symbol.relation = 3);
+        row
+    };
+    let nothings = |random: &mut Random| {
+        (0..BESIDE)
+            .map(|_| symbol(NONTERMINAL, random.pick(palette.relations), NOTHING as u16))
+            .collect()
+    };
+    let top = chained(random, vec![symbol(TERMINAL, 0, 0)]);
+    let last = tokens(random, 1);
+    let beside_tokens = tokens(random, BESIDE);
+    let beside_nothings = nothings(random);
+    let row = |row| Production { left: ROW, row };
+    let productions = vec![
+        Production {
+            left: TOP as u16,
+            row: top,
+        },
+        Production {
+            left: NOTHING as u16,
+            row: Vec::new(),
+        },
+        row(last),
+        row(chained(random, beside_tokens)),
+        row(chained(random, beside_nothings)),
+        row(chained(random, Vec::new())),
+    ];
+    palette.grammar(TOP, productions)
+}
+
 /// The rows of a `counted` grammar have 0 to 4 symbols of each kind.
 pub const COUNTED: usize = 5;
 

@@ -1,14 +1,20 @@
 //! Trees grown from a grammar in preorder, each with an aim.
 
-use super::grammars::COUNTED;
+use super::grammars::{self, COUNTED};
 use super::random::Random;
 use super::sheet::{Above, Grammar, Sheet, Symbol, NONTERMINAL, TERMINAL};
+
+/// The depth of the deepest node that may be, with 1 for the root.
+pub const MOST_DEPTH: usize = 1024;
 
 pub enum Aim {
     /// Anything, of about so many nodes and of no more than this depth.
     Any { nodes: usize, depth: usize },
     /// Exactly this depth, from a `spine` grammar.
     Spine { depth: usize },
+    /// Exactly this depth, from a `rows` grammar, with rows of 16 as long as
+    /// the nodes and tokens that there may be are enough.
+    Rows { depth: usize },
     /// Exactly so many nodes and tokens, from a `counted` grammar.
     Counted { nodes: usize, tokens: usize },
 }
@@ -39,6 +45,7 @@ pub fn grow(random: &mut Random, grammar: Grammar, aim: Aim) -> Sheet {
         tree: Vec::new(),
         above_nodes: Vec::new(),
         above_tokens: Vec::new(),
+        base: None,
     };
     let root = Symbol {
         kind: NONTERMINAL,
@@ -85,6 +92,10 @@ pub fn grow(random: &mut Random, grammar: Grammar, aim: Aim) -> Sheet {
                 choices.any(random, left, stop)
             }
             Aim::Spine { depth: deepest } => 2 * left + usize::from(on_spine && depth < deepest),
+            Aim::Rows { depth: deepest } => {
+                let levels = deepest.saturating_sub(depth);
+                rows(random, left, levels, node + 1 + pending, promised)
+            }
             Aim::Counted { nodes, tokens } => {
                 let open = nodes.saturating_sub(node + 1 + pending);
                 let unused = tokens.saturating_sub(promised);
@@ -113,6 +124,21 @@ pub fn grow(random: &mut Random, grammar: Grammar, aim: Aim) -> Sheet {
     sheet
 }
 
+/// A production of a `rows` grammar such that so many further levels, with a
+/// node each, still fit beside the nodes and tokens that there are or are due.
+fn rows(random: &mut Random, left: usize, levels: usize, nodes: usize, tokens: usize) -> usize {
+    const MOST: usize = 4096;
+    let beside = grammars::BESIDE;
+    match (left, random.below(3)) {
+        (grammars::TOP, _) => 0,
+        (grammars::NOTHING, _) => 1,
+        _ if levels == 0 => 2,
+        (_, 0) if tokens + beside < MOST => 3,
+        (_, 1) if nodes + beside + levels <= MOST => 4,
+        _ => 5,
+    }
+}
+
 /// A production of a `counted` grammar such that the counts can still be met.
 /// Tokens that are bound to come later are at most four a node.
 fn counted(
@@ -124,7 +150,7 @@ fn counted(
     unused: usize,
     after: usize,
 ) -> usize {
-    let most = if depth < 256 {
+    let most = if depth < MOST_DEPTH {
         open.min(COUNTED - 1)
     } else {
         0

@@ -49,6 +49,8 @@ pub struct Sheet {
     /// the root's entry is itself, free.
     pub above_nodes: Vec<Above>,
     pub above_tokens: Vec<Above>,
+    /// The root's number where columns are laid out, if it is a certain one.
+    pub base: Option<usize>,
 }
 
 fn image(words: impl IntoIterator<Item = usize>) -> Vec<u8> {

@@ -1,6 +1,6 @@
 //! How often each call gave each number, so that a reader sees which were met.
 
-use crate::without_column::WithoutColumn;
+use crate::met::Met;
 use std::fmt;
 
 #[derive(Clone, Copy)]
@@ -37,6 +37,8 @@ impl Call {
 
 const NUMBERS: u8 = 15;
 const MANY_NODES: usize = 1000;
+/// The greatest indentation that may be returned.
+const GREATEST: u32 = 5118;
 
 #[derive(Default)]
 pub struct Tally {
@@ -46,7 +48,9 @@ pub struct Tally {
     short: [u64; 2],
     /// Inputs whose tree was accepted or refused by 12, with many nodes.
     large: u64,
-    without_column: WithoutColumn,
+    met: Met,
+    /// The greatest indentation that the check returned.
+    greatest: u32,
 }
 
 impl Tally {
@@ -62,7 +66,13 @@ impl Tally {
     /// Counts an input that was accepted or refused by 12.
     pub fn add_judged(&mut self, nodes: usize, [grammar, tokens, tree]: &[Vec<u8>; 3]) {
         self.large += u64::from(nodes > MANY_NODES);
-        self.without_column.add(grammar, tokens, tree);
+        self.met.add(grammar, tokens, tree);
+    }
+
+    /// Takes the indentations that an accepted input was given.
+    pub fn add_indentations(&mut self, indentations: &[u32]) {
+        let greatest = indentations.iter().max();
+        self.greatest = self.greatest.max(greatest.copied().unwrap_or(0));
     }
 
     pub fn join(&mut self, other: &Tally) {
@@ -71,7 +81,8 @@ impl Tally {
         }
         self.inputs += other.inputs;
         self.large += other.large;
-        self.without_column.join(&other.without_column);
+        self.met.join(&other.met);
+        self.greatest = self.greatest.max(other.greatest);
         add(&mut self.short, &other.short);
         add(self.calls.as_flattened_mut(), other.calls.as_flattened());
     }
@@ -80,8 +91,8 @@ impl Tally {
         self.calls[call as usize][usize::from(number)]
     }
 
-    /// The numbers that a call can give and did not, and the relations that
-    /// met no token without a column.
+    /// The numbers that a call can give and did not, and what the judged sheets
+    /// should have had and had not.
     pub fn missing(&self) -> Vec<String> {
         let mut missing = Vec::new();
         for (call, name, numbers) in CALLS {
@@ -94,7 +105,10 @@ impl Tally {
                 missing.push(format!("check never gave 4 for {reason}"));
             }
         }
-        missing.extend(self.without_column.missing());
+        missing.extend(self.met.missing());
+        if self.greatest < GREATEST {
+            missing.push(format!("no indentation of {GREATEST} was returned"));
+        }
         missing
     }
 }
@@ -123,6 +137,7 @@ impl fmt::Display for Tally {
             "\nthe check's 4: {sets} by sets, {indentations} by indentations; \
              sets written for over {MANY_NODES} nodes: {large}"
         )?;
-        writeln!(f, "{}", self.without_column)
+        writeln!(f, "{}", self.met)?;
+        writeln!(f, "the greatest indentation returned: {}", self.greatest)
     }
 }

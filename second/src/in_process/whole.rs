@@ -84,6 +84,8 @@ impl Whole {
             return Err(lending.told(format!("{given}, {outside} other entries changed")));
         }
         turn.tally.add(Call::Check, given.number);
+        let returned = &self.given.indentations.part()[..indentations];
+        turn.tally.add_indentations(returned);
         match given.number {
             0 | 12 => turn.tally.add_judged(nodes, turn.images),
             4 => {

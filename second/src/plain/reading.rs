@@ -1,4 +1,4 @@
-//! How the rules are read at four points where a reader slips easily.
+//! How the rules are read at five points where a reader slips easily.
 //!
 //! The defaults are the right reading, the only one that a program runs. A
 //! test takes one of them wrongly and demands that the comparison finds it.
@@ -13,6 +13,9 @@ pub trait Reading {
     const EMPTY_PASSES_FREE: bool = true;
     /// Whether a symbol's relation has to be one of the four.
     const RELATION_TESTED: bool = true;
+
+    /// How deep a node may be, with 1 for the root; at most `ROWS` of the walk.
+    const DEEPEST: usize = 1024;
 
     /// Whether a token without a column stands in the relation to its node,
     /// which it does to every number of the node or to none.

@@ -10,7 +10,9 @@ use super::Refusal;
 /// without a column sets no bound, so no bound ever comes near it.
 pub const NO_BOUND: i16 = i16::MAX;
 
-const MOST_DEPTH: usize = 256;
+/// As many rows can be open: one more than in the right reading, for one that
+/// lets a level more through.
+const ROWS: usize = 1025;
 
 /// A node's parent, the relation to it, and the numbers `low..=high` that
 /// are open to the node so far; none when `low > high`.
@@ -49,8 +51,8 @@ impl Note {
 }
 
 /// Where the walk leaves what it meets: in a list with one note a node, in
-/// counts of tokens without a column, or nowhere, if the derivation is all
-/// that is asked.
+/// counts for a comparison, or nowhere, if the derivation is all that is
+/// asked.
 pub trait Noted {
     fn node(&mut self, node: usize, above: u16, relation: u16);
     /// The column as its field has it, which may be `NO_COLUMN`.
@@ -80,11 +82,29 @@ impl Noted for [Note] {
     }
 }
 
-/// A count for each relation, by its number.
-impl Noted for [u64; 4] {
-    fn node(&mut self, _: usize, _: u16, _: u16) {}
+/// What a comparison counts on a sheet.
+#[derive(Default)]
+pub struct Sight {
+    /// Tokens without a column for each relation, by its number.
+    pub without_column: [u64; 4],
+    /// The depth of the deepest node, with 1 for the root.
+    pub depth: usize,
+    depths: Vec<usize>,
+}
+
+impl Noted for Sight {
+    fn node(&mut self, node: usize, above: u16, _: u16) {
+        let depth = if node == 0 {
+            1
+        } else {
+            self.depths[usize::from(above)] + 1
+        };
+        self.depths.push(depth);
+        self.depth = self.depth.max(depth);
+    }
+
     fn token<R: Reading>(&mut self, _: u16, relation: u16, column: u16) {
-        self[usize::from(relation)] += u64::from(column == NO_COLUMN);
+        self.without_column[usize::from(relation)] += u64::from(column == NO_COLUMN);
     }
 }
 
@@ -111,7 +131,7 @@ pub fn derive<R: Reading, N: Noted + ?Sized>(
         tokens,
         nodes,
     } = images;
-    let mut rows = [Row::default(); MOST_DEPTH];
+    let mut rows = [Row::default(); ROWS];
     let mut depth = 0;
     let mut node = 0;
     let mut token = 0;
@@ -128,7 +148,7 @@ pub fn derive<R: Reading, N: Noted + ?Sized>(
         if word(l0, l1) != due {
             return Err((5, node));
         }
-        if depth == MOST_DEPTH {
+        if depth == R::DEEPEST {
             return Err((9, node));
         }
         notes.node(node, above, relation);

@@ -81,8 +81,8 @@ const NO_COLUMNS: [Sheet; 4] = [
 
 /// A day at column 1 and so many hours at column 3 without items.
 const HOURS: [(&str, usize); 2] = [
-    ("253 hours, depth 256: 0 0", 253),
-    ("254 hours, depth 257: 9 762", 254),
+    ("1,021 hours, depth 1,024: 0 0", 1021),
+    ("1,022 hours, depth 1,025: 9 3066", 1022),
 ];
 
 pub fn run(subject: &Subject, trials: &mut Trials) {
