@@ -13,7 +13,7 @@
  *   thread uses them meanwhile. What a call is not said to write stays as it was.
  * - Nothing is allocated and nothing is kept from one call to the next. Calls may run side by side in threads, also
  *   on the same inputs.
- * - A stack of 100 KiB is enough, for the deepest tree as well: docs/BENCHMARKS.md, "Stack", has what was measured.
+ * - A stack of 256 KiB is enough, for the deepest tree as well: docs/BENCHMARKS.md, "Stack", has what was measured.
  */
 #ifndef PRAVISONDO_H
 #define PRAVISONDO_H
@@ -55,7 +55,7 @@ enum {
     PRAVISONDO_NODES_END = 6,      /* a node is due and none remains. Place: D */
     PRAVISONDO_WRONG_TOKEN = 7,    /* the next token is not the terminal due. Place: the token */
     PRAVISONDO_TOKENS_END = 8,     /* a token is due and none remains. Place: K */
-    PRAVISONDO_TOO_DEEP = 9,       /* a node deeper than 256, with 1 for the root. Place: the node */
+    PRAVISONDO_TOO_DEEP = 9,       /* a node deeper than 1,024, with 1 for the root. Place: the node */
     PRAVISONDO_NODES_REMAIN = 10,  /* the tree is complete and nodes remain. Place: the first unused node */
     PRAVISONDO_TOKENS_REMAIN = 11, /* the tree is complete and tokens remain. Place: the first unused token */
     PRAVISONDO_EMPTY_SET = 12,     /* the root's set is empty: no indentations satisfy all relations.
@@ -91,7 +91,7 @@ static inline uint32_t pravisondo_place(uint64_t answer)
  * arise in one walk through the tree in preorder, and the first met is given.
  * On 0, for each node n from 0 to D - 1: its set, which are all indentations that it can have with the nodes below it,
  * at sets[2n] (low) and sets[2n + 1] (high); and at indentations[n] the least that it has in any choice that satisfies
- * all relations. Together these are such a choice.
+ * all relations. Together these are such a choice, and none exceeds 5,118.
  * On 12 the sets alone are written. On any other number neither list is. Later entries are never written. */
 uint64_t pravisondo_check(const uint8_t *grammar, size_t grammar_length,
                           const uint8_t *tokens, size_t tokens_length,

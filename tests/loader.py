@@ -28,6 +28,8 @@ PARTS = ["grammar", "tokens", "tree"]
 SENTENCES = {
     "samples/october": "accepted: 79 nodes, the root's indentation is 1",
     "samples/october-joined": "accepted: 79 nodes, the root's indentation is 1",
+    "samples/october-blocks": "accepted: 903 nodes, the root's indentation is 1",
+    "sheets/deep-rows-5118": "accepted: 4084 nodes, the root's indentation is 4095",
     "samples/october-as-remarks": "refused (12): the columns do not fit the tree, they leave no indentation for node 5",
     "samples/october-tree-only": "refused (7): the tree does not fit the sheet at token 3",
     "sheets/starred-07-day-at-0": "accepted: 2 nodes, the root's indentation is 0",
@@ -38,7 +40,7 @@ SENTENCES = {
     "sheets/starred-10-root-is-no-sheet": "refused (5): the tree has a node that does not belong there, node 0",
     "sheets/starred-11-hours-missing": "refused (6): the tree breaks off where it needs node 1",
     "sheets/starred-09-no-tokens": "refused (8): the sheet breaks off where the tree needs token 0",
-    "sheets/hours-254": "refused (9): the tree is too deep at node 762",
+    "sheets/hours-1022": "refused (9): the tree is too deep at node 3066",
     "sheets/starred-14-node-remains": "refused (10): the tree is complete and has a further node, node 2",
     "sheets/starred-13-token-remains": "refused (11): the tree is complete and the sheet goes on with token 1",
 }

@@ -6,6 +6,7 @@
   120 columns.
 - A field is read by its byte in the crates of the images alone: all else reads images by a record's number.
 - The number that stands for no column has its name once in the definitions and once in the code.
+- The greatest indentation is a law: its number, 5,118, stands in no definition, contract, code or proof.
 """
 
 import pathlib
@@ -40,17 +41,29 @@ def readers_by_byte():
             yield f"{path.relative_to(CRATES)} reads an image by a byte"
 
 
+def places(number, pattern):
+    """How often a number stands in the files of a pattern, comments left out."""
+    comment = "//" if pattern.endswith(".rt") else "--"
+    lines = [line.split(comment)[0] for path in files(pattern) for line in path.read_text().splitlines()]
+    return sum(len(re.findall(rf"\b{number}\b", line)) for line in lines)
+
+
 def no_column():
-    for pattern, comment in (("*/src/**/*.rt", "//"), ("*/specs/**/*.antt", "--")):
-        lines = [line.split(comment)[0] for path in files(pattern) for line in path.read_text().splitlines()]
-        places = sum(len(re.findall(r"\b65535\b", line)) for line in lines)
-        if places != 1:
-            yield f"65535 stands {places} times in crates/{pattern}"
+    for pattern in ("*/src/**/*.rt", "*/specs/**/*.antt"):
+        count = places(65535, pattern)
+        if count != 1:
+            yield f"65535 stands {count} times in crates/{pattern}"
+
+
+def greatest_indentation():
+    for pattern in ("*/src/**/*.rt", "*/specs/**/*.antt", "*/proofs/**/*.antt"):
+        if places(5118, pattern):
+            yield f"5118 stands in crates/{pattern}"
 
 
 def main():
     passed = failed = 0
-    for check in (wide_lines, readers_by_byte, no_column):
+    for check in (wide_lines, readers_by_byte, no_column, greatest_indentation):
         found = list(check())
         print(*found, sep="\n", end="\n" if found else "")
         failed += bool(found)

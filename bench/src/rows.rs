@@ -116,7 +116,12 @@ pub fn sample(name: &str, path: &str) -> Row {
 pub fn all(samples: &str) -> Vec<Row> {
     let mut rows = vec![
         sample("October day of 25 hours", &format!("{samples}/october")),
+        sample(
+            "October day of 300 blocks",
+            &format!("{samples}/october-blocks"),
+        ),
         hours(253),
+        hours(1021),
         greatest(),
         last_entry(),
     ];

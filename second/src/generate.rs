@@ -118,7 +118,7 @@ fn large(random: &mut Random) -> Sheet {
 /// Around the greatest depth, or anywhere below it.
 fn deep(random: &mut Random) -> Sheet {
     let nonterminals = random.within(1, 8);
-    // Rows of four children fit at every level.
+    // With four children a row the deepest tree has 4,093 nodes.
     let longest = random.pick(&[1, 1, 2, 3, 4]);
     let mut grammar = grammars::spine(random, nonterminals, longest);
     if nonterminals > 1 && random.one_in(4) {

@@ -2,14 +2,13 @@
 //! slip would show on: tokens without a column under every relation, and
 //! trees that are deep.
 
-use crate::plain;
+use crate::plain::{self, Reading, Right};
 use std::fmt;
 
 const RELATIONS: [&str; 4] = ["=", ">", "≥", "free"];
 /// A tree deeper than this is deep.
-const DEEP: usize = 256;
-/// As deep as a tree may be.
-const DEEPEST: usize = 1024;
+pub const DEEP: usize = 256;
+const DEEPEST: usize = Right::DEEPEST;
 
 /// Counts over all sheets that were accepted or refused by 12.
 #[derive(Default)]

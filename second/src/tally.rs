@@ -3,11 +3,10 @@
 
 use crate::definition;
 use crate::delivery;
-use crate::met::Met;
+use crate::met::{Met, DEEP};
 use std::fmt;
 
 const ANSWERS: usize = 13;
-const DEEP: usize = 256;
 const MANY_NODES: usize = 1000;
 
 #[derive(Clone, Copy, Default)]

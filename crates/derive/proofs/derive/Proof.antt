@@ -1,4 +1,5 @@
 -- `derive::derive` meets its contract: the walk begins at the root, with the start nonterminal due and all levels left, and what remains is told after it.
+use mathlib.Core.Path.{refl}
 use borrow.Author.Needs.{needs}
 use native.Mathlib.Omega.{arith}
 use denote.Ref.{now}
@@ -31,12 +32,12 @@ remaining-requires c κs =
 returns : tie.Need-returns
 returns c =
     let at = c .before .before .before in
-    walk-refused _ _ _ (at .node .ensures) (omega arith) (omega arith) (c .before .refusal .given .1)
+    walk-refused _ _ _ (at .node .ensures) refl (omega arith) (c .before .refusal .given .1)
 
 returns-2 : tie.Need-returns-2
 returns-2 c =
     let at = c .before .before .before .before in
-    walk-done _ _ _ (at .node .ensures) (omega arith) (omega arith) _ _ (c .before .before .n .given .1) (c .remaining .ensures)
+    walk-done _ _ _ (at .node .ensures) refl (omega arith) _ _ (c .before .before .n .given .1) (c .remaining .ensures)
 
 pub derive-spec : {M : Type 1} → statement M
 derive-spec =
