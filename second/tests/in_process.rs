@@ -123,7 +123,7 @@ fn relations_of_a_token_without_a_column() {
     found(read::<FreeFails>("no free relation without a column"));
 }
 
-/// The depth before it was raised, and limits that are one off.
+/// A depth that is far too small, and limits that are one off.
 #[test]
 fn another_depth() {
     struct Shallow;

@@ -201,20 +201,17 @@ pub fn rows(random: &mut Random, steep: bool) -> Grammar {
     };
     let tokens = |random: &mut Random, count| {
         let mut row = palette.row(random, 0, count);
-        row.iter_mut()
-            .filter(|_| steep)
-            .for_each(|symbol| symbol.relation = 3);
+        if steep {
+            row.iter_mut().for_each(|symbol| symbol.relation = 3);
+        }
         row
-    };
-    let nothings = |random: &mut Random| {
-        (0..BESIDE)
-            .map(|_| symbol(NONTERMINAL, random.pick(palette.relations), NOTHING as u16))
-            .collect()
     };
     let top = chained(random, vec![symbol(TERMINAL, 0, 0)]);
     let last = tokens(random, 1);
     let beside_tokens = tokens(random, BESIDE);
-    let beside_nothings = nothings(random);
+    let beside_nothings = (0..BESIDE)
+        .map(|_| symbol(NONTERMINAL, random.pick(palette.relations), NOTHING as u16))
+        .collect();
     let row = |row| Production { left: ROW, row };
     let productions = vec![
         Production {
