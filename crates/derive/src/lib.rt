@@ -1,5 +1,7 @@
 // The derivation of document 01: whether the nodes of a tree image are a tree of the grammar over the tokens.
 // Nothing is written and no list is lent.
+#![tactic(auto)]
+
 mod walk;
 
 ghost use Rattle.std.specs.Prelude.{◌≡◌, ◌≤◌, length};
