@@ -20,7 +20,7 @@ use token_image::token_count;
 use tree_image::node_count;
 
 // Why a tree does not derive, each with its place.
-#[derive(Drop)]
+#[derive(Clone, Copy)]
 pub enum Refusal {
     // The node whose left side is not the nonterminal due.
     WrongNode(u16),
@@ -39,7 +39,7 @@ pub enum Refusal {
 }
 
 // What the derivation walk answers.
-#[derive(Drop)]
+#[derive(Clone, Copy)]
 pub enum Derivation {
     // The tree derives the whole token list.
     Derived,

@@ -7,7 +7,7 @@ ghost use Rattle.fields.specs.Fields.{field_at};
 ghost use Rattle.fields.specs.Answers.{checked_number, checked_place};
 
 // What the check of an image answers.
-#[derive(Drop)]
+#[derive(Clone, Copy)]
 pub enum Checked {
     // Every field keeps its rule.
     Good,

@@ -14,7 +14,7 @@ use token_image::check_tokens;
 use tree_image::{check_tree, node_count};
 
 // What the check answers: document 01's number and place.
-#[derive(Drop)]
+#[derive(Clone, Copy)]
 pub struct Answer {
     pub number: u8,
     pub place: u32,

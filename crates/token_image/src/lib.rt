@@ -10,7 +10,7 @@ use fields::{Checked, field_at};
 use rules::{TOKENS, column_allowed};
 
 // A token with its column.
-#[derive(Drop)]
+#[derive(Clone, Copy)]
 pub struct Token {
     pub terminal: u16,
     pub column: u16,
