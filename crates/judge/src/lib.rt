@@ -1,5 +1,7 @@
 // The check of document 01: whether a tree is right, over three images, with the set and the least
 // indentation of every node written to two lent lists.
+#![tactic(auto)]
+
 ghost use Rattle.std.specs.Prelude.{◌≡◌};
 ghost use Rattle.fields.specs.Images.{images};
 ghost use Rattle.images.specs.Formed.{Formed};
