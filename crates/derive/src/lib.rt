@@ -1,5 +1,7 @@
 // The derivation of document 01: whether the nodes of a tree image are a tree of the grammar over the tokens.
 // Nothing is written and no list is lent.
+#![tactic(auto)]
+
 mod walk;
 
 ghost use Rattle.std.specs.Prelude.{◌≡◌, ◌≤◌, length};
@@ -18,7 +20,7 @@ use token_image::token_count;
 use tree_image::node_count;
 
 // Why a tree does not derive, each with its place.
-#[derive(Drop)]
+#[derive(Clone, Copy)]
 pub enum Refusal {
     // The node whose left side is not the nonterminal due.
     WrongNode(u16),
@@ -37,7 +39,7 @@ pub enum Refusal {
 }
 
 // What the derivation walk answers.
-#[derive(Drop)]
+#[derive(Clone, Copy)]
 pub enum Derivation {
     // The tree derives the whole token list.
     Derived,

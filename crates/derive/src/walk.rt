@@ -17,7 +17,7 @@ use token_image::{token_at, token_count};
 use tree_image::node_count;
 
 // How the walk of a node or of a row ends.
-#[derive(Drop)]
+#[derive(Clone, Copy)]
 pub enum Walked {
     // So many nodes and tokens are used since the root.
     Used(u16, u16),

@@ -1,6 +1,5 @@
 -- Laws of what n records hold: how many they are, and which one is the i-th.
 use mathlib.Core.Path.{◌≡◌, refl, ap}
-use mathlib.Core.List.{List}
 use Prim.Native.Nat.{ℕ, zero, suc, ◌+◌, ◌<◌}
 use native.Mathlib.Nat.{add-zero, add-suc, suc-add}
 use native.Mathlib.Omega.{arith}

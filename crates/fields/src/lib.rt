@@ -1,11 +1,13 @@
 // What the images of document 01 share: their fields, and what the check of an image answers.
 // An image is lent as a slice of its bytes. What is read lies within it: no reader tests its length.
+#![tactic(auto)]
+
 ghost use Rattle.std.specs.Prelude.{◌≡◌, ◌+◌, ◌*◌, ◌<◌, ◌≤◌, length, get_or};
 ghost use Rattle.fields.specs.Fields.{field_at};
 ghost use Rattle.fields.specs.Answers.{checked_number, checked_place};
 
 // What the check of an image answers.
-#[derive(Drop)]
+#[derive(Clone, Copy)]
 pub enum Checked {
     // Every field keeps its rule.
     Good,

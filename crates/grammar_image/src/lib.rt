@@ -1,4 +1,6 @@
 // The grammar image: its check, its counts, and its productions and symbols by number.
+#![tactic(auto)]
+
 ghost use Rattle.std.specs.Prelude.{◌≡◌, ◌+◌, ◌*◌, ◌<◌, ◌≤◌, ◌++◌, length, get_or};
 ghost use Rattle.fields.specs.Fields.{field_at, each, each_from, WellFormed, first_fault, nowhere};
 ghost use Rattle.grammar_image.specs.GrammarImage.{production_count, entry_count, entry_byte, starts_at};
@@ -11,7 +13,7 @@ use fields::{Checked, byte_at, field_at};
 use rules::{ENTRIES, NONTERMINALS, PRODUCTIONS, ROW, TERMINALS};
 
 // The header of a grammar image.
-#[derive(Drop)]
+#[derive(Clone, Copy)]
 pub struct Counts {
     pub terminals: u16,
     pub nonterminals: u16,
@@ -21,7 +23,7 @@ pub struct Counts {
 }
 
 // A production: its left side, and its row as the number of its first symbol entry and a count.
-#[derive(Drop)]
+#[derive(Clone, Copy)]
 pub struct Production {
     pub left: u16,
     pub first: u16,
@@ -29,7 +31,7 @@ pub struct Production {
 }
 
 // A symbol of a row: kind 0 is a terminal, 1 a nonterminal.
-#[derive(Drop)]
+#[derive(Clone, Copy)]
 pub struct Symbol {
     pub kind: u8,
     pub relation: u8,
@@ -87,7 +89,7 @@ pub fn symbol_at(image: &[u8], y: u32) -> Symbol
 // The header up to its symbol entries.
 fn check_counts(image: &[u8], counts: Counts) -> Checked
     requires counted { Counted image.now counts }
-    requires in_bounds { 16 ≤ length image.now }
+    requires header { 16 ≤ length image.now }
     ensures { result ≡ first_fault (count_fields image.now) }
 {
     if counts.terminals < 1 {
@@ -120,7 +122,7 @@ fn check_counts(image: &[u8], counts: Counts) -> Checked
 // The header from the offset of the productions on.
 fn check_offsets(image: &[u8], counts: Counts) -> Checked
     requires counted { Counted image.now counts }
-    requires in_bounds { 16 ≤ length image.now }
+    requires header { 16 ≤ length image.now }
     ensures { result ≡ first_fault (offset_fields image.now) }
 {
     let symbols = 16 + 6 * (counts.productions as usize);
@@ -143,8 +145,8 @@ fn check_offsets(image: &[u8], counts: Counts) -> Checked
 // Whether field f of production p keeps its rule, where the one before ended at `starts`.
 fn production_keeps(image: &[u8], counts: Counts, p: usize, f: usize, starts: usize) -> bool
     requires counted { Counted image.now counts }
-    requires p_in_bounds { (16 + 6 * p + 6 ≤ length image.now) × (f < 3) }
-    requires starts_value { (starts ≡ starts_at image.now p) × (starts < 65536) }
+    requires there { (16 + 6 * p + 6 ≤ length image.now) × (f < 3) }
+    requires starts { (starts ≡ starts_at image.now p) × (starts < 65536) }
     ensures { result ≡ (get_or (production_fields image.now p) f nowhere).keeps }
 {
     let value = field_at(image, 16 + 6 * p + 2 * f) as usize;
@@ -158,7 +160,7 @@ fn production_keeps(image: &[u8], counts: Counts, p: usize, f: usize, starts: us
 // The productions' fields, then their last end, which is a fault of byte 8.
 fn check_productions(image: &[u8], counts: Counts) -> Checked
     requires counted { Counted image.now counts }
-    requires image_in_bounds { 16 + 6 * production_count image.now ≤ length image.now }
+    requires there { 16 + 6 * production_count image.now ≤ length image.now }
     ensures { result ≡ first_fault (productions_fields image.now) }
 {
     let productions = counts.productions as usize;
@@ -183,7 +185,7 @@ fn check_productions(image: &[u8], counts: Counts) -> Checked
 // Whether field f of symbol entry y keeps its rule.
 fn symbol_keeps(image: &[u8], counts: Counts, y: usize, f: usize) -> bool
     requires counted { Counted image.now counts }
-    requires y_in_bounds { (entry_byte image.now y + 4 ≤ length image.now) × (f < 3) }
+    requires there { (entry_byte image.now y + 4 ≤ length image.now) × (f < 3) }
     ensures { result ≡ (get_or (symbol_fields image.now y) f nowhere).keeps }
 {
     let at = 16 + 6 * (counts.productions as usize) + 4 * y;
@@ -204,7 +206,7 @@ fn symbol_keeps(image: &[u8], counts: Counts, y: usize, f: usize) -> bool
 // relation are read as one field.
 fn entry_over(image: &[u8], counts: Counts, y: usize) -> u16
     requires counted { Counted image.now counts }
-    requires y_in_bounds { entry_byte image.now y + 4 ≤ length image.now }
+    requires there { entry_byte image.now y + 4 ≤ length image.now }
     ensures good { result ≡ 0 → WellFormed (symbol_fields image.now y) }
     ensures small { result < 256 }
 {
@@ -228,7 +230,7 @@ fn entry_over(image: &[u8], counts: Counts, y: usize) -> u16
 // The same of the sixteen symbol entries from y on, all together.
 fn sixteen_over(image: &[u8], counts: Counts, y: usize) -> u16
     requires counted { Counted image.now counts }
-    requires y_in_bounds { entry_byte image.now (y + 16) ≤ length image.now }
+    requires there { entry_byte image.now (y + 16) ≤ length image.now }
     ensures { result ≡ 0 → WellFormed (each_from y 16 (symbol_fields image.now)) }
 {
     let mut over = 0;
@@ -241,7 +243,7 @@ fn sixteen_over(image: &[u8], counts: Counts, y: usize) -> u16
 // So many symbol entries from the first on keep their rules. They are tested sixteen at a time.
 fn good_entries(image: &[u8], counts: Counts) -> usize
     requires counted { Counted image.now counts }
-    requires image_in_bounds { entry_byte image.now (entry_count image.now) ≤ length image.now }
+    requires there { entry_byte image.now (entry_count image.now) ≤ length image.now }
     ensures good { WellFormed (each result (symbol_fields image.now)) }
     ensures within { result ≤ entry_count image.now }
 {
@@ -259,7 +261,7 @@ fn good_entries(image: &[u8], counts: Counts) -> usize
 // The symbol entries' fields: the search begins behind those that were found good.
 fn check_symbols(image: &[u8], counts: Counts) -> Checked
     requires counted { Counted image.now counts }
-    requires image_in_bounds { entry_byte image.now (entry_count image.now) ≤ length image.now }
+    requires there { entry_byte image.now (entry_count image.now) ≤ length image.now }
     ensures { result ≡ first_fault (symbols_fields image.now) }
 {
     let entries = counts.entries as usize;
@@ -281,7 +283,7 @@ fn check_symbols(image: &[u8], counts: Counts) -> Checked
 // The records' fields: first the productions', then the symbols'.
 fn check_records(image: &[u8], counts: Counts) -> Checked
     requires counted { Counted image.now counts }
-    requires image_in_bounds { entry_byte image.now (entry_count image.now) ≤ length image.now }
+    requires there { entry_byte image.now (entry_count image.now) ≤ length image.now }
     ensures { result ≡ first_fault (productions_fields image.now ++ symbols_fields image.now) }
 {
     match check_productions(image, counts) {
@@ -293,7 +295,7 @@ fn check_records(image: &[u8], counts: Counts) -> Checked
 // The header's fields.
 fn check_header(image: &[u8], counts: Counts) -> Checked
     requires counted { Counted image.now counts }
-    requires in_bounds { 16 ≤ length image.now }
+    requires header { 16 ≤ length image.now }
     ensures { result ≡ first_fault (count_fields image.now ++ offset_fields image.now) }
 {
     match check_counts(image, counts) {

@@ -1,4 +1,6 @@
 // What is read of a grammar image and a tree image together, once both are found well formed.
+#![tactic(auto)]
+
 ghost use Rattle.std.specs.Prelude.{◌≡◌, ◌<◌, eqb};
 ghost use Rattle.grammar_image.specs.GrammarImage.{ProductionIs, count_of};
 ghost use Rattle.tree_image.specs.TreeImage.{node_count, node_at};

@@ -2,6 +2,8 @@
 // and the symbols that remain. They take a tree that derives, and look at no relation's number.
 // A node is given its number before those below it, each the least that its set and its parent allow.
 // A node with an empty row is given it by its parent's row, without a call.
+#![tactic(auto)]
+
 ghost use Rattle.std.specs.Prelude.{ℕ, ◌*◌, ◌≤◌, length};
 ghost use Rattle.grammar_image.specs.GrammarImage.{entry_count};
 ghost use Rattle.tree_image.specs.TreeImage.{node_count};

@@ -1,5 +1,7 @@
 // The check of document 01: whether a tree is right, over three images, with the set and the least
 // indentation of every node written to two lent lists.
+#![tactic(auto)]
+
 ghost use Rattle.std.specs.Prelude.{◌≡◌};
 ghost use Rattle.fields.specs.Images.{images};
 ghost use Rattle.images.specs.Formed.{Formed};
@@ -14,7 +16,7 @@ use token_image::check_tokens;
 use tree_image::{check_tree, node_count};
 
 // What the check answers: document 01's number and place.
-#[derive(Drop)]
+#[derive(Clone, Copy)]
 pub struct Answer {
     pub number: u8,
     pub place: u32,

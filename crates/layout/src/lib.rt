@@ -1,5 +1,7 @@
 // The sets of nodes in their lent list: low and high of the set of node n stand at 2n and 2n + 1.
 // What stands here serves the set pass and the indentation pass of document 01, which are a crate each.
+#![tactic(auto)]
+
 ghost use Rattle.std.specs.Prelude.{◌≡◌, [], ◌∷◌, ℕ, ◌+◌, ◌*◌, ◌≤◌, length, get_or};
 ghost use Rattle.rules.specs.Interval.{highest_empty};
 ghost use Rattle.layout.specs.Written.{written_at};

@@ -1,10 +1,12 @@
 // What the two packers share: what they answer, and how a field and a header are written.
+#![tactic(auto)]
+
 ghost use Rattle.std.specs.Prelude.{◌≡◌, [], ◌∷◌, ◌++◌, ◌+◌, ◌*◌, ◌%◌, ◌/◌, ◌≤◌, ◌<◌, length, set, drop};
 ghost use Rattle.packers.specs.Answers.{packed_number, packed_place, packed_length};
 ghost use Rattle.packers.specs.Packing.{bytes_of};
 
 // What a packer answers.
-#[derive(Drop)]
+#[derive(Clone, Copy)]
 pub enum Packed {
     // The image stands in the first bytes of the output, as many as are said.
     Written(u16),

@@ -16,7 +16,7 @@ pub fn put(byte: u8, out: &mut [u8], at: usize) -> usize
 fn put_digits(n: u64, left: u8, out: &mut [u8], at: usize) -> usize
     requires { at + left ≤ length out.old }
     ensures put { Put at (digits left n) out.old result out.new }
-    ensures upper_bound { result ≤ at + left }
+    ensures within { result ≤ at + left }
 {
     if left == 0 {
         return at;
@@ -32,7 +32,7 @@ fn put_digits(n: u64, left: u8, out: &mut [u8], at: usize) -> usize
 pub fn put_number(n: u64, behind: u8, out: &mut [u8], at: usize) -> usize
     requires { at + 21 ≤ length out.old }
     ensures put { Put at (decimal n ++ (behind ∷ [])) out.old result out.new }
-    ensures upper_bound { result ≤ at + 21 }
+    ensures within { result ≤ at + 21 }
 {
     let next = put_digits(n, 20, out, at);
     put(behind, out, next)

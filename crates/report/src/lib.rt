@@ -1,4 +1,6 @@
 // The text that the program prints: number and place of an answer and, on acceptance, one line a node.
+#![tactic(auto)]
+
 mod decimal;
 mod lines;
 

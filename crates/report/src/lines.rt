@@ -11,7 +11,7 @@ use rules::relation::UNBOUNDED;
 fn put_upper(high: u32, out: &mut [u8], at: usize) -> usize
     requires { at + 21 ≤ length out.old }
     ensures put { Put at (spaced (upper high)) out.old result out.new }
-    ensures upper_bound { result ≤ at + 21 }
+    ensures within { result ≤ at + 21 }
 {
     if high == UNBOUNDED {
         let next = put(b'-', out, at);
@@ -24,7 +24,7 @@ fn put_upper(high: u32, out: &mut [u8], at: usize) -> usize
 fn put_line(n: usize, low: u32, high: u32, indentation: u32, out: &mut [u8], at: usize) -> usize
     requires { at + 84 ≤ length out.old }
     ensures put { Put at (line n low high indentation) out.old result out.new }
-    ensures upper_bound { result ≤ at + 84 }
+    ensures within { result ≤ at + 84 }
 {
     let after_node = put_number(n as u64, b' ', out, at);
     let after_low = put_number(low as u64, b' ', out, after_node);
@@ -40,8 +40,8 @@ pub fn put_lines(
     out: &mut [u8],
     at: usize,
 ) -> usize
-    requires count_le_max_nodes { (count ≤ max_nodes) × (2 * count ≤ length sets.now) × (count ≤ length indentations.now) }
-    requires count_in_bounds { at + 84 * count ≤ length out.old }
+    requires entries { (count ≤ max_nodes) × (2 * count ≤ length sets.now) × (count ≤ length indentations.now) }
+    requires room { at + 84 * count ≤ length out.old }
     ensures { Put at (lines sets.now indentations.now count)
         out.old result out.new }
 {

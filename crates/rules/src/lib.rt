@@ -1,4 +1,6 @@
 // The limits of document 01, each under its name, and the relation step.
+#![tactic(auto)]
+
 pub mod relation;
 
 ghost use Rattle.std.specs.Prelude.{◌≡◌};

@@ -12,7 +12,7 @@ pub const UNBOUNDED: u32 = 4294967295;
 
 // A set of indentations: the whole numbers from low to high, or from low on where high is
 // `UNBOUNDED`. It is empty where high is below low, and then low is 1 and high 0.
-#[derive(Drop)]
+#[derive(Clone, Copy)]
 pub struct Set {
     pub low: u32,
     pub high: u32,

@@ -2,6 +2,8 @@
 // symbols that remain. They take a tree that derives, and look at no relation's number.
 // A set is written after those below it, and read back where it is met. The set of a node with an empty
 // row is all whole numbers, without a call.
+#![tactic(auto)]
+
 mod next;
 
 ghost use Rattle.std.specs.Prelude.{ℕ, ◌+◌, ◌*◌, ◌<◌, ◌≤◌, length};

@@ -1,4 +1,6 @@
 // The token image: its check, its count and its tokens by number.
+#![tactic(auto)]
+
 ghost use Rattle.std.specs.Prelude.{◌≡◌, ◌+◌, ◌*◌, ◌<◌, ◌≤◌, length, get_or};
 ghost use Rattle.fields.specs.Fields.{field_at, first_fault, nowhere};
 ghost use Rattle.token_image.specs.TokenImage.{header_fields, record_fields, records_fields, token_fields};
@@ -8,7 +10,7 @@ use fields::{Checked, field_at};
 use rules::{TOKENS, column_allowed};
 
 // A token with its column.
-#[derive(Drop)]
+#[derive(Clone, Copy)]
 pub struct Token {
     pub terminal: u16,
     pub column: u16,
@@ -69,8 +71,8 @@ fn check_header(image: &[u8]) -> Checked
 
 // Whether field f of token k keeps its rule.
 fn token_keeps(image: &[u8], terminals: u16, k: usize, f: usize) -> bool
-    requires k_in_bounds { 6 + 4 * k + 4 ≤ length image.now }
-    requires f_bound { f < 2 }
+    requires there { 6 + 4 * k + 4 ≤ length image.now }
+    requires field { f < 2 }
     ensures { result ≡ (get_or (record_fields terminals image.now k) f nowhere).keeps }
 {
     let value = field_at(image, 6 + 4 * k + 2 * f);

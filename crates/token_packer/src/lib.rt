@@ -1,4 +1,6 @@
 // Two lists, of terminals and of columns, to a token image. Terminal numbers are not judged.
+#![tactic(auto)]
+
 ghost use Rattle.std.specs.Prelude.{◌≡◌, ◌++◌, ◌+◌, ◌*◌, ◌≤◌, length, drop};
 ghost use Rattle.rules.specs.Limits.{max_tokens};
 ghost use Rattle.fields.specs.Fields.{first_fault};
@@ -44,8 +46,8 @@ fn token_answer(terminals: &[u16], columns: &[u16], room: usize) -> Packed
 
 // The image at the start of an output that has room for it.
 fn write_tokens(terminals: &[u16], columns: &[u16], out: &mut [u8])
-    requires terminals_len { (length terminals.now ≡ length columns.now) × (length terminals.now ≤ max_tokens) }
-    requires terminals_in_bounds { 6 + 4 * length terminals.now ≤ length out.old }
+    requires counted { (length terminals.now ≡ length columns.now) × (length terminals.now ≤ max_tokens) }
+    requires room { 6 + 4 * length terminals.now ≤ length out.old }
     ensures { out.new
         ≡ token_image terminals.now columns.now
         ++ drop (6 + 4 * length terminals.now) out.old }

@@ -1,4 +1,6 @@
 // The tree image: its check, its count and its nodes by number.
+#![tactic(auto)]
+
 ghost use Rattle.std.specs.Prelude.{◌≡◌, ◌+◌, ◌*◌, ◌≤◌, length};
 ghost use Rattle.fields.specs.Fields.{first_fault};
 ghost use Rattle.tree_image.specs.TreeImage.{header_fields, records_fields, tree_fields, node_count, node_at};

@@ -1,4 +1,6 @@
 // A list of production numbers to a tree image. Production numbers are not judged.
+#![tactic(auto)]
+
 ghost use Rattle.std.specs.Prelude.{◌≡◌, ◌++◌, ◌+◌, ◌*◌, ◌≤◌, length, drop};
 ghost use Rattle.rules.specs.Limits.{max_nodes};
 ghost use Rattle.packers.specs.Packing.{tree_image, tree_answer, TreePacked};
@@ -26,8 +28,8 @@ fn tree_answer(productions: &[u16], room: usize) -> Packed
 
 // The image at the start of an output that has room for it.
 fn write_tree(productions: &[u16], out: &mut [u8])
-    requires productions_len_bound { length productions.now ≤ max_nodes }
-    requires productions_in_bounds { 6 + 2 * length productions.now ≤ length out.old }
+    requires counted { length productions.now ≤ max_nodes }
+    requires room { 6 + 2 * length productions.now ≤ length out.old }
     ensures { out.new
         ≡ tree_image productions.now
         ++ drop (6 + 2 * length productions.now) out.old }
