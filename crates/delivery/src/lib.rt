@@ -1,4 +1,6 @@
 // A delivery: grammar, token and tree image one after another, as the program reads them.
+#![tactic(auto)]
+
 ghost use Rattle.std.specs.Prelude.{◌≡◌, ◌≤◌, min, length};
 ghost use Rattle.judge.specs.Judged.{Judged, lists, given};
 ghost use Rattle.delivery.specs.Delivery.{grammar_length, token_length};
@@ -24,7 +26,7 @@ fn image_length(there: usize, says: u16) -> usize
 // How many bytes the grammar image of a delivery takes: all where its header is short.
 fn grammar_length(delivery: &[u8]) -> usize
     ensures value { result ≡ grammar_length delivery.now }
-    ensures upper_bound { result ≤ length delivery.now }
+    ensures within { result ≤ length delivery.now }
 {
     let there = delivery.len();
     if there < GRAMMAR_HEADER {
@@ -36,7 +38,7 @@ fn grammar_length(delivery: &[u8]) -> usize
 // How many bytes the token image takes of what follows the grammar image: all where its header is short.
 fn token_length(rest: &[u8]) -> usize
     ensures value { result ≡ token_length rest.now }
-    ensures upper_bound { result ≤ length rest.now }
+    ensures within { result ≤ length rest.now }
 {
     let remains = rest.len();
     if remains < TOKEN_HEADER {

@@ -2,6 +2,8 @@
 // two packers and the checks of the three images. include/pravisondo.h says to a C programmer what each
 // takes, gives and leaves. Every call gives one number of 64 bits: bits 0 to 7 are the answer's number,
 // bits 8 to 31 the length that a packer wrote, bits 32 to 63 the place.
+#![tactic(auto)]
+
 ghost use Rattle.fields.specs.Fields.{first_fault};
 ghost use Rattle.fields.specs.Images.{images};
 ghost use Rattle.grammar_image.specs.GrammarImage.{grammar_fields};
