@@ -5,7 +5,7 @@ use Prim.Native.Nat.{ℕ, ◌+◌, ◌*◌, ◌<◌, ◌≤◌, min}
 use native.Mathlib.Omega.{arith}
 use lib.ListN.{length, get_or, set, length-append}
 use Rattle.rules.specs.Grammar.{Symbol, Token}
-use Rattle.rules.specs.Tree.{Tree, node, Row}
+use Rattle.rules.specs.Tree.{Tree, Row}
 use Rattle.rules.specs.Derivation.{nodes, row_nodes, tokens}
 use Rattle.rules.specs.Choice.{flat, flats}
 use Rattle.rules.specs.Stored.{unbounded}

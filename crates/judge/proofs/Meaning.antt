@@ -14,7 +14,7 @@ use Rattle.rules.specs.Limits.{max_column, max_depth, max_indentation}
 use Rattle.rules.specs.Grammar.{Production, Token, ColumnsUpTo}
 use Rattle.rules.specs.Relation.{rise}
 use Rattle.rules.specs.NoColumn.{NoColumnAtEqual}
-use Rattle.rules.specs.Derivation.{nodes, depth, Derives}
+use Rattle.rules.specs.Derivation.{depth, Derives}
 use Rattle.rules.specs.Walk.{Answer, answer}
 use Rattle.rules.specs.Choice.{Choice, Laid, Least}
 use Rattle.rules.specs.Stored.{Stored, subtrees, StoredSets, SetOf, HighestEmpty}

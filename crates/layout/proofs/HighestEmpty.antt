@@ -1,7 +1,7 @@
 -- Laws of the search for the highest-numbered empty set, one for each way through its loop.
 use mathlib.Core.Path.{◌≡◌, refl}
 use mathlib.Core.List.{List, ◌++◌}
-use Prim.Native.Nat.{ℕ, zero, suc, ◌+◌, ◌*◌, ◌-◌, ◌<◌, ◌≤◌}
+use Prim.Native.Nat.{ℕ, zero, suc, ◌+◌, ◌*◌, ◌<◌, ◌≤◌}
 use native.Mathlib.Omega.{arith}
 use lib.ListN.{length, get_or, get_or-append}
 use borrow.Author.Tests.{lt-ltb, le-ltb}

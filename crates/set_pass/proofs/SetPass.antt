@@ -6,7 +6,7 @@ use native.Mathlib.Omega.{arith}
 use lib.ListN.{length, get_or, length-append}
 use Rattle.fields.specs.Images.{images}
 use Rattle.rules.specs.Grammar.{Symbol}
-use Rattle.rules.specs.Tree.{Tree, node, Row, token}
+use Rattle.rules.specs.Tree.{Tree, node, Row}
 use Rattle.rules.specs.Derivation.{nodes, row_nodes, tokens, row_tokens}
 use Rattle.rules.specs.Stored.{unbounded}
 use Rattle.rules.specs.Interval.{all_set, meet, token_leaves, child_leaves, set_of, row_set, sets_of, row_sets}

@@ -1,5 +1,5 @@
 -- What is refused is refused before anything is written, and what both passes write is the verdict on the tree that the nodes derive.
-use Rattle.std.proofs.Common.{◌≡◌, sym, ap, ◌∙◌, arith}
+use Rattle.std.proofs.Common.{sym, ap, ◌∙◌, arith}
 use Rattle.rules.specs.Walk.{Answer}
 use Rattle.fields.specs.Images.{images}
 use Rattle.tree_image.proofs.Within.{header_within}

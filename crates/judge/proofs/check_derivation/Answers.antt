@@ -1,9 +1,7 @@
 -- With room for every node no test but those of the images and of the walk refuses.
-use Rattle.std.proofs.Common.{◌≡◌, sym, ap, ◌∙◌}
+use Rattle.std.proofs.Common.{sym, ap, ◌∙◌}
 use Rattle.rules.specs.Walk.{Answer}
 use Rattle.fields.specs.Images.{images}
-use Rattle.judge.specs.Judged.{first_refusal}
-use Rattle.judge.specs.Parts.{image_tests}
 use Rattle.judge.proofs.Passed.{images_formed}
 use Rattle.judge.proofs.Tests.{images_first, walk_first, room_enough}
 use Rattle.judge.proofs.check_derivation.Goals as goal

@@ -25,14 +25,14 @@ pub returns-in-Fault-checked-2 : goal.returns-in-Fault-checked-2
 returns-in-Fault-checked-2 c =
     let grammar : Good ≡ first_fault (grammar_fields c.args.grammar.now) = sym c.in_default.is ∙ c.check_grammar-checked.ensures in
     let tokens : Good ≡ first_fault (token_fields (terminal_count c.args.grammar.now) c.args.tokens.now) =
-        rw (← c.counts_at-counts.ensures.terminals) (sym c.in_default-checked.is ∙ c.check_tokens-checked.ensures) in
+    rw (← c.counts_at-counts.ensures.terminals) (sym c.in_default-checked.is ∙ c.check_tokens-checked.ensures) in
     tree_refused _ grammar tokens c.counts_at-counts.ensures.productions c.check_tree-checked.ensures c.in-Fault-checked-2.is
 
 pub returns : goal.returns
 returns c =
     let grammar : Good ≡ first_fault (grammar_fields c.args.grammar.now) = sym c.in_default.is ∙ c.check_grammar-checked.ensures in
     let tokens : Good ≡ first_fault (token_fields (terminal_count c.args.grammar.now) c.args.tokens.now) =
-        rw (← c.counts_at-counts.ensures.terminals) (sym c.in_default-checked.is ∙ c.check_tokens-checked.ensures) in
+    rw (← c.counts_at-counts.ensures.terminals) (sym c.in_default-checked.is ∙ c.check_tokens-checked.ensures) in
     let tree : Good ≡ first_fault (tree_fields (production_count c.args.grammar.now) c.args.tree.now) =
-        rw (← c.counts_at-counts.ensures.productions) (sym c.in_default-checked-2.is ∙ c.check_tree-checked.ensures) in
+    rw (← c.counts_at-counts.ensures.productions) (sym c.in_default-checked-2.is ∙ c.check_tree-checked.ensures) in
     images_passed _ grammar tokens tree

@@ -1,4 +1,4 @@
-use Rattle.std.proofs.Common.{◌≡◌, refl, sym, ap, ◌∙◌, ℕ, ◌≤◌, ◌*◌, [], ◌∷◌, length, arith}
+use Rattle.std.proofs.Common.{refl, sym, ap, ◌∙◌, ℕ, ◌≤◌, ◌*◌, [], ◌∷◌, length, arith}
 use borrow.Author.Tests.{eqb-true}
 use Rattle.rules.specs.Stored.{unbounded}
 use Rattle.rules.specs.Interval.{meet, child_leaves}

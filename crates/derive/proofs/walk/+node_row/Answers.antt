@@ -9,7 +9,7 @@ use Rattle.grammar_image.proofs.Within.{entry_within}
 use Rattle.tree_image.proofs.Within.{header_within}
 use Rattle.images.proofs.Within.{row_ends}
 use Rattle.token_image.proofs.Within.{tokens_end_lem}
-use Rattle.derive.proofs.Walking.{no_node, other_left, too_deep_lem, row_empty, row_walked, row_refused, row_goes_on, row_used, row_begins, terminal_due, nonterminal_due}
+use Rattle.derive.proofs.Walking.{no_node, other_left, too_deep_lem, row_empty, row_walked, row_refused, row_goes_on, row_used, terminal_due, nonterminal_due}
 use Rattle.derive.proofs.walk.+node_row.Goals.{row-then-symbol-eq0, row-else-symbol-eq0}
 use Rattle.derive.proofs.walk.+node_row.Goals as goal
 
@@ -52,20 +52,20 @@ pub row-returns-in-Refused : goal.row-returns-in-Refused
 row-returns-in-Refused t c =
     let read = c.symbol_at-symbol.ensures in
     let walked : walked_as c.if-symbol-eq0.walked ≡ symbol_due (tokens_of c.args.tokens.now) (node_due_in (images c.args.grammar.now c.args.tokens.now c.args.tree.now) c.args.levels) (symbol_at c.args.grammar.now c.loop-y.y) c.loop-y.next_node c.loop-y.next_token =
-        elim c.if-symbol-eq0.branch [
-          row-then-symbol-eq0 w ↦ ap walked_as w.walked-is ∙ terminal_due _ _ read _ _ w.if-symbol-eq0.true w.token-walked.ensures
-        | row-else-symbol-eq0 w ↦ ap walked_as w.walked-is ∙ nonterminal_due _ _ read _ _ w.if-symbol-eq0.false w.node-walked.ensures
-        ] in
+    elim c.if-symbol-eq0.branch [
+      | row-then-symbol-eq0 w ↦ ap walked_as w.walked-is ∙ terminal_due _ _ read _ _ w.if-symbol-eq0.true w.token-walked.ensures
+      | row-else-symbol-eq0 w ↦ ap walked_as w.walked-is ∙ nonterminal_due _ _ read _ _ w.if-symbol-eq0.false w.node-walked.ensures
+    ] in
     row_refused _ _ _ _ _ _ _ (omega arith) (sym (ap walked_as c.in-Refused.is) ∙ walked) ∙ c.loop-y.invariant.2
 
 pub row-loop-y-preserved : goal.row-loop-y-preserved
 row-loop-y-preserved t c =
     let read = c.symbol_at-symbol.ensures in
     let walked : walked_as c.if-symbol-eq0.walked ≡ symbol_due (tokens_of c.args.tokens.now) (node_due_in (images c.args.grammar.now c.args.tokens.now c.args.tree.now) c.args.levels) (symbol_at c.args.grammar.now c.loop-y.y) c.loop-y.next_node c.loop-y.next_token =
-        elim c.if-symbol-eq0.branch [
-          row-then-symbol-eq0 w ↦ ap walked_as w.walked-is ∙ terminal_due _ _ read _ _ w.if-symbol-eq0.true w.token-walked.ensures
-        | row-else-symbol-eq0 w ↦ ap walked_as w.walked-is ∙ nonterminal_due _ _ read _ _ w.if-symbol-eq0.false w.node-walked.ensures
-        ] in
+    elim c.if-symbol-eq0.branch [
+      | row-then-symbol-eq0 w ↦ ap walked_as w.walked-is ∙ terminal_due _ _ read _ _ w.if-symbol-eq0.true w.token-walked.ensures
+      | row-else-symbol-eq0 w ↦ ap walked_as w.walked-is ∙ nonterminal_due _ _ read _ _ w.if-symbol-eq0.false w.node-walked.ensures
+    ] in
     (refl, omega arith, row_goes_on _ _ _ _ _ _ _ (omega arith) (sym (ap walked_as c.in-Used.is) ∙ walked) ∙ c.loop-y.invariant.2)
 
 pub row-returns : goal.row-returns

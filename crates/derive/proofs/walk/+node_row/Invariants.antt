@@ -1,6 +1,6 @@
 -- A node with so many levels left calls a row with one level less, and a row calls nodes with its own levels: twice the levels falls,
 -- with one more for a row.
-use Rattle.std.proofs.Common.{◌≡◌, ℕ, ◌≤◌, ◌+◌, ◌*◌, ◌-◌}
+use Rattle.std.proofs.Common.{◌≡◌, ◌≤◌, ◌+◌, ◌*◌, ◌-◌}
 use Rattle.fields.specs.Images.{images}
 use Rattle.fields.specs.Fields.{list_from}
 use Rattle.grammar_image.specs.GrammarImage.{symbol_at}
