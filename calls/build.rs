@@ -1,5 +1,5 @@
-//! Links the proved code: the static library that `rt staticlib exported`
-//! writes. It is for x86-64 only.
+//! Links the proved code: the static library that `bash samples/library`
+//! builds. It is for x86-64 only.
 
 use std::path::Path;
 
@@ -10,7 +10,7 @@ fn main() {
     println!("cargo:rerun-if-changed={}", library.display());
     if !library.exists() {
         println!(
-            "cargo:warning=target/staticlib/libexported.a is missing: run 'rt staticlib exported'"
+            "cargo:warning=target/staticlib/libexported.a is missing: run 'bash samples/library'"
         );
     }
     println!("cargo:rustc-link-search=native={}", folder.display());

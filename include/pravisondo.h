@@ -1,7 +1,7 @@
 /* Pravisondo for C and C++: the check of a proposed parse tree, the check of its derivation alone, the checks of single
  * images, and two packers.
  *
- * On x86-64, once `rt staticlib exported` has written the library:
+ * On x86-64, once `bash samples/library` has built the library:
  *     cc loader.c -Iinclude target/staticlib/libexported.a
  * samples/loader.c is the least program that uses it. The bytes of the images are described in README.md.
  *

@@ -1,6 +1,6 @@
 """The header include/pravisondo.h and the least loader, samples/loader.c, over the static library.
 
-    python3 tests/loader.py          on x86-64, after `rt staticlib exported`
+    python3 tests/loader.py          on x86-64, after `bash samples/library`
 
 samples/loader builds the loader, and every warning is an error. Tried are the loader's sentence and status, each call
 of the header from C, and the header alone in C++. What is expected was written by hand from documents 01 and 02.

@@ -2,7 +2,7 @@
 ghost use Rattle.std.specs.Prelude.{◌≤◌, length};
 ghost use Rattle.pravisondo.specs.Input.{Within};
 
-use libc::STDIN_FILENO;
+use std::io::{Read, Stdin};
 
 // What reading gives: so many bytes, or nothing where a read failed.
 #[derive(Drop)]
@@ -12,24 +12,23 @@ pub enum Input {
 }
 
 // One read: how many bytes came, 0 at the end of the input.
-fn read_some(bytes: &mut [u8]) -> Input
+fn read_some(stdin: &mut Stdin, bytes: &mut [u8]) -> Input
     ensures { Within result (length bytes.new) }
 {
-    let got = libc::read(STDIN_FILENO, bytes);
-    if got < 0 {
-        return Input::Failed;
+    match stdin.read(bytes) {
+        Ok(n) => Input::Bytes(n),
+        Err(_) => Input::Failed,
     }
-    Input::Bytes(io::count(got, bytes))
 }
 
 // Reads until `bytes` is full or the input ends. A read that fails makes the whole input worthless:
 // the bytes before it would be judged as if they were all.
-pub fn read(bytes: &mut [u8]) -> Input
+pub fn read(stdin: &mut Stdin, bytes: &mut [u8]) -> Input
     ensures { Within result (length bytes.new) }
 {
     let mut done = 0;
     while done < bytes.len() {
-        let came = read_some(&mut bytes[done..]);
+        let came = read_some(stdin, &mut bytes[done..]);
         let Input::Bytes(n) = came else {
             return Input::Failed;
         };

@@ -1,9 +1,10 @@
 // The program: reads a delivery from standard input, has it checked, and writes the answer.
+#![tactic(auto)]
+
 mod input;
 
 use delivery::{check_delivery, tree_in};
 use input::Input;
-use libc::{STDERR_FILENO, STDOUT_FILENO};
 use report::report;
 use tree_image::node_count;
 
@@ -20,7 +21,7 @@ const TEXT: usize = 344106;
 
 // Checks a delivery and writes the answer. The text is gathered and written at once. The nodes are
 // counted where the tree is accepted, and so well formed.
-fn answer(delivery: &[u8]) {
+fn answer(rt: &(impl Print + Eprint), delivery: &[u8]) {
     let mut sets = [0u32; SETS];
     let mut indentations = [0u32; INDENTATIONS];
     let answer = check_delivery(delivery, &mut sets, &mut indentations);
@@ -38,23 +39,20 @@ fn answer(delivery: &[u8]) {
         &indentations,
         &mut text,
     );
-    if !io::write_all(STDOUT_FILENO, &text[0..length]) {
-        io::write_all(
-            STDERR_FILENO,
-            b"pravisondo: standard output cannot be written\n",
-        );
+    if rt.write_all(&text[0..length]).is_err() {
+        complain(rt, "pravisondo: standard output cannot be written");
     }
 }
 
-fn main() {
+// A line on standard error. Where that fails as well, there is nobody left to tell.
+fn complain(rt: &impl Eprint, line: &str) {
+    let _ = rt.eprintln(line);
+}
+
+fn main(rt: HostRuntime) {
     let mut bytes = [0u8; DELIVERY];
-    match input::read(&mut bytes) {
-        Input::Bytes(n) => answer(&bytes[0..n]),
-        Input::Failed => {
-            io::write_all(
-                STDERR_FILENO,
-                b"pravisondo: standard input cannot be read\n",
-            );
-        }
+    match input::read(&mut rt.stdin(), &mut bytes) {
+        Input::Bytes(n) => answer(&rt, &bytes[0..n]),
+        Input::Failed => complain(&rt, "pravisondo: standard input cannot be read"),
     }
 }

@@ -1,0 +1,15 @@
+-- the nodes are counted in a tree image that is well formed, because it was accepted, and the text that is written is a part of the list that it was put
+-- into
+use Rattle.std.proofs.Common.{arith}
+use Rattle.tree_image.proofs.Within.{header_within}
+use Rattle.judge.proofs.Demands.{accepted_only_if}
+use Rattle.report.proofs.Promised.{within}
+use Rattle.pravisondo.proofs.answer.Goals as goal
+
+pub node_count-requires : goal.node_count-requires
+node_count-requires g c =
+    let fits = (accepted_only_if c.check_delivery-answer.ensures c.if-answer-eq0.true).0 in
+    rw c.tree_in.ensures (header_within _ _ fits.tree_formed)
+
+pub slice_bounds-write_all-end : goal.slice_bounds-write_all-end
+slice_bounds-write_all-end g c = omega (arith, within c.report-length.ensures, c.report-length.auto.out)
