@@ -2,7 +2,8 @@
 -- productions P, 1 to 1,024.
 -- 8: symbol entries Y, 0 to 4,096. 10: offset of the productions, 16. 12: offset of the symbols, 16 + 6P. 14: total
 -- length, 16 + 6P + 4Y, which is also the image's real length."
-use Rattle.std.specs.Prelude.{◌≡◌, ◌&&◌, cond, List, [], ◌∷◌, ◌++◌, ℕ, zero, suc, ◌+◌, ◌*◌, leb, ltb, eqb, length, get_or}
+use Rattle.std.specs.Prelude.{◌≡◌, ◌&&◌, cond, List, [], ◌∷◌, ◌++◌, ℕ}
+use Rattle.std.specs.Prelude.{zero, suc, ◌+◌, ◌*◌, leb, ltb, eqb, length, get_or}
 use Rattle.rules.specs.Limits.{max_terminals, max_nonterminals, max_productions, max_entries, max_row}
 use Rattle.rules.specs.Grammar.{Symbol, Production}
 use Rattle.fields.specs.Fields.{field_at, Field, field, each, list, list_from}

@@ -1,5 +1,6 @@
 -- What the packers write and answer ("What comes back", last paragraph).
-use Rattle.std.specs.Prelude.{◌≡◌, ◌&&◌, cond, List, [], ◌∷◌, ◌++◌, ℕ, ◌+◌, ◌*◌, ◌%◌, ◌/◌, leb, eqb, length, get_or, drop}
+use Rattle.std.specs.Prelude.{◌≡◌, ◌&&◌, cond, List, [], ◌∷◌, ◌++◌, ℕ}
+use Rattle.std.specs.Prelude.{◌+◌, ◌*◌, ◌%◌, ◌/◌, leb, eqb, length, get_or, drop}
 use Rattle.rules.specs.Limits.{max_nodes, max_tokens, column_allowed}
 use Rattle.fields.specs.Fields.{Field, field, each, first_fault}
 use Rattle.fields.specs.declared.Checked.{Checked}

@@ -1,6 +1,7 @@
 -- The text of an answer ("It prints number and place"), and what the function that puts it into an output gives back.
 -- Bytes are numbers; 32 is a space, 10 the end of a line, 45 the sign -.
-use Rattle.std.specs.Prelude.{◌≡◌, Bool, ◌&&◌, cond, List, [], ◌∷◌, ◌++◌, ℕ, zero, suc, ◌+◌, ◌*◌, ◌%◌, ◌/◌, leb, ltb, eqb, length, get_or, drop}
+use Rattle.std.specs.Prelude.{◌≡◌, Bool, ◌&&◌, cond, List, [], ◌∷◌, ◌++◌, ℕ, zero}
+use Rattle.std.specs.Prelude.{suc, ◌+◌, ◌*◌, ◌%◌, ◌/◌, leb, ltb, eqb, length, get_or, drop}
 use Rattle.rules.specs.Limits.{max_nodes}
 use Rattle.rules.specs.Stored.{unbounded}
 

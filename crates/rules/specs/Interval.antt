@@ -1,6 +1,7 @@
 -- Sets by a low and a high, and what the relations make of them: what the two passes compute. No promise to the desk
 -- names them; that they are the sets and the least indentations is proved.
-use Rattle.std.specs.Prelude.{cond, List, [], ◌∷◌, ◌++◌, ℕ, zero, suc, ◌+◌, ◌*◌, ◌-◌, ◌<◌, ◌≤◌, max, min, ltb, eqb, get_or}
+use Rattle.std.specs.Prelude.{cond, List, [], ◌∷◌, ◌++◌, ℕ, zero, suc, ◌+◌}
+use Rattle.std.specs.Prelude.{◌*◌, ◌-◌, ◌<◌, ◌≤◌, max, min, ltb, eqb, get_or}
 use Rattle.rules.specs.Grammar.{Symbol, Production, no_column}
 use Rattle.rules.specs.Tree.{Tree, node, Row, end, token, child}
 use Rattle.rules.specs.Choice.{Choice, given, Choices, none, next}
@@ -36,7 +37,8 @@ module _ (top : ℕ) where
 
   -- what a token's column leaves its parent; without a column = leaves nothing and any other relation all
   unfoldable pub token_leaves : ℕ → ℕ → Set
-  token_leaves r column = cond (eqb column no_column) (cond (eqb r 0) empty_set all_set) (leaves r (bounds column column))
+  token_leaves r column =
+      cond (eqb column no_column) (cond (eqb r 0) empty_set all_set) (leaves r (bounds column column))
 
 -- the numbers that are in both sets
 unfoldable pub meet : Set → Set → Set

@@ -61,7 +61,8 @@ node_due G ns ts (suc levels) A n k =
 -- "walk done, nodes remain", then "walk done, tokens remain"
 unfoldable pub walk_done : List ℕ → List Token → Walked → Answer
 walk_done ns ts (refused a) = a
-walk_done ns ts (used n k) = cond (ltb n (length ns)) (answer 10 n) (cond (ltb k (length ts)) (answer 11 k) (answer 0 0))
+walk_done ns ts (used n k) =
+    cond (ltb n (length ns)) (answer 10 n) (cond (ltb k (length ts)) (answer 11 k) (answer 0 0))
 
 -- the walk from the root on, where the start nonterminal is due
 unfoldable pub walk : (ℕ → Production) → List ℕ → List Token → ℕ → Answer
