@@ -5,7 +5,7 @@ ghost use Rattle.pravisondo.specs.Input.{Within};
 use std::io::{Read, Stdin};
 
 // What reading gives: so many bytes, or nothing where a read failed.
-#[derive(Drop)]
+#[derive(Clone, Copy)]
 pub enum Input {
     Bytes(usize),
     Failed,
