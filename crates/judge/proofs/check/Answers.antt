@@ -8,7 +8,7 @@ use Rattle.judge.proofs.Outcomes.{refused_judged, formed, room_for_sets, room_fo
 use Rattle.judge.proofs.check.Goals as goal
 
 pub returns-then-first-ne0 : goal.returns-then-first-ne0
-returns-then-first-ne0 c = refused_judged _ _ c.refusal-first.ensures c.if-first-ne0.true
+returns-then-first-ne0 c = refused_judged _ _ c.refusal-first.ensures (λ e. omega arith)
 
 -- behind it no test refuses
 pub root-root-requires-clause-formed : goal.root-root-requires-clause-formed

@@ -1,5 +1,5 @@
 -- With room for every node no test but those of the images and of the walk refuses.
-use Rattle.std.proofs.Common.{sym, ap, ◌∙◌}
+use Rattle.std.proofs.Common.{sym, ap, ◌∙◌, arith}
 use Rattle.rules.specs.Walk.{Answer}
 use Rattle.fields.specs.Images.{images}
 use Rattle.judge.proofs.Passed.{images_formed}
@@ -7,7 +7,7 @@ use Rattle.judge.proofs.Tests.{images_first, walk_first, room_enough}
 use Rattle.judge.proofs.check_derivation.Goals as goal
 
 pub returns-then-faulty-ne0 : goal.returns-then-faulty-ne0
-returns-then-faulty-ne0 c = images_first _ _ c.image_refusal-faulty.ensures c.if-faulty-ne0.true
+returns-then-faulty-ne0 c = images_first _ _ c.image_refusal-faulty.ensures (λ e. omega arith)
 
 pub walk_refusal-requires : goal.walk_refusal-requires
 walk_refusal-requires c = images_formed _ (sym (ap (λ (a : Answer). a.number) c.image_refusal-faulty.ensures) ∙ c.if-faulty-ne0.false)
