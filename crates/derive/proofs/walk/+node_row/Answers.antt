@@ -53,8 +53,8 @@ row-returns-in-Refused t c =
     let read = c.symbol_at-symbol.ensures in
     let walked : walked_as c.if-symbol-eq0.walked ≡ symbol_due (tokens_of c.args.tokens.now) (node_due_in (images c.args.grammar.now c.args.tokens.now c.args.tree.now) c.args.levels) (symbol_at c.args.grammar.now c.loop-y.y) c.loop-y.next_node c.loop-y.next_token =
     elim c.if-symbol-eq0.branch [
-      | row-then-symbol-eq0 w ↦ ap walked_as w.walked-is ∙ terminal_due _ _ read _ _ w.if-symbol-eq0.true w.token-walked.ensures
-      | row-else-symbol-eq0 w ↦ ap walked_as w.walked-is ∙ nonterminal_due _ _ read _ _ w.if-symbol-eq0.false w.node-walked.ensures
+      | row-then-symbol-eq0 w ↦ ap walked_as w.walked-is ∙ terminal_due _ _ read _ _ (omega arith) w.token-walked.ensures
+      | row-else-symbol-eq0 w ↦ ap walked_as w.walked-is ∙ nonterminal_due _ _ read _ _ (λ e. omega arith) w.node-walked.ensures
     ] in
     row_refused _ _ _ _ _ _ _ (omega arith) (sym (ap walked_as c.in-Refused.is) ∙ walked) ∙ c.loop-y.invariant.2
 
@@ -63,8 +63,8 @@ row-loop-y-preserved t c =
     let read = c.symbol_at-symbol.ensures in
     let walked : walked_as c.if-symbol-eq0.walked ≡ symbol_due (tokens_of c.args.tokens.now) (node_due_in (images c.args.grammar.now c.args.tokens.now c.args.tree.now) c.args.levels) (symbol_at c.args.grammar.now c.loop-y.y) c.loop-y.next_node c.loop-y.next_token =
     elim c.if-symbol-eq0.branch [
-      | row-then-symbol-eq0 w ↦ ap walked_as w.walked-is ∙ terminal_due _ _ read _ _ w.if-symbol-eq0.true w.token-walked.ensures
-      | row-else-symbol-eq0 w ↦ ap walked_as w.walked-is ∙ nonterminal_due _ _ read _ _ w.if-symbol-eq0.false w.node-walked.ensures
+      | row-then-symbol-eq0 w ↦ ap walked_as w.walked-is ∙ terminal_due _ _ read _ _ (omega arith) w.token-walked.ensures
+      | row-else-symbol-eq0 w ↦ ap walked_as w.walked-is ∙ nonterminal_due _ _ read _ _ (λ e. omega arith) w.node-walked.ensures
     ] in
     (refl, omega arith, row_goes_on _ _ _ _ _ _ _ (omega arith) (sym (ap walked_as c.in-Used.is) ∙ walked) ∙ c.loop-y.invariant.2)
 
