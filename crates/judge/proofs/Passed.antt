@@ -23,6 +23,10 @@ use Rattle.images.specs.Formed.{Formed}
 use Rattle.judge.specs.Parts.{image_tests}
 use Rattle.judge.specs.Judged.{Entries, checked, room, tests, first_refusal, Fitting, DerivesIn}
 
+-- an answer that is the first refusal, and whose number is 0: no test refuses
+pub answered_zero : {a : Answer} (later : List Answer) → a ≡ first_refusal later → a.number ≡ 0 → (first_refusal later).number ≡ 0
+answered_zero later e zero = sym (ap (λ (a : Answer). a.number) e) ∙ zero
+
 -- where no test refuses, the first does not and no later one does
 pub first_passed : (a : Answer) (later : List Answer) → (first_refusal (a ∷ later)).number ≡ 0 → (a.number ≡ 0) × ((first_refusal later).number ≡ 0)
 unfolding first_refusal
