@@ -1,2 +1,3 @@
 -- What a well-formed grammar image is, and what it holds.
 pub mod GrammarImage
+pub mod Kinds

@@ -4,6 +4,7 @@
 ghost use Rattle.std.specs.Prelude.{◌≡◌, ◌+◌, ◌*◌, ◌<◌, ◌≤◌, ◌++◌, length, get_or};
 ghost use Rattle.fields.specs.Fields.{field_at, each, each_from, WellFormed, first_fault, nowhere};
 ghost use Rattle.grammar_image.specs.GrammarImage.{production_count, entry_count, entry_byte, starts_at};
+ghost use Rattle.grammar_image.specs.Kinds.{kind_of};
 ghost use Rattle.grammar_image.specs.GrammarImage.{Counted, ProductionIs, SymbolIs};
 ghost use Rattle.grammar_image.specs.GrammarImage.{count_fields, offset_fields, production_fields};
 ghost use Rattle.grammar_image.specs.GrammarImage.{productions_fields};
@@ -30,12 +31,31 @@ pub struct Production {
     pub count: u16,
 }
 
-// A symbol of a row: kind 0 is a terminal, 1 a nonterminal.
+// A symbol of a row, with the bytes of its entry for the kind and the relation.
 #[derive(Clone, Copy)]
 pub struct Symbol {
     pub kind: u8,
     pub relation: u8,
     pub number: u16,
+}
+
+// What stands at a symbol.
+#[derive(Clone, Copy, Debug, PartialEq, Eq)]
+pub enum Kind {
+    Terminal,
+    Nonterminal,
+}
+
+impl Symbol {
+    // 0 is a terminal, and any other kind a nonterminal: a well-formed image has no other than 1.
+    pub fn kind(self) -> Kind
+        ensures { result ≡ kind_of self.kind }
+    {
+        match self.kind {
+            0 => Kind::Terminal,
+            _ => Kind::Nonterminal,
+        }
+    }
 }
 
 // The counts of the header.

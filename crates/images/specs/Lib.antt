@@ -1,2 +1,3 @@
--- What is asked of images that were tested.
+-- What is asked of images that were tested, and what they hold.
 pub mod Formed
+pub mod Held

@@ -1,0 +1,7 @@
+-- "kind (0 terminal, 1 nonterminal)": what stands at a symbol.
+use Rattle.std.specs.Prelude.{ℕ, if◌then◌else◌, ◌==◌}
+use Rattle.grammar_image.specs.declared.Kind.{Kind}
+use Rattle.grammar_image.specs.declared.Kind.TheVariants.{Terminal, Nonterminal}
+
+abbrev pub kind_of : ℕ → Kind
+kind_of number = if number == 0 then Terminal else Nonterminal
