@@ -8,7 +8,9 @@ use borrow.Author.Tests.{le-leb, lt-leb, lt-ltb, le-ltb, eq-eqb, ne_eqb, not-tru
 use native.Mathlib.Numerals.{add-one}
 use lib.ListN.{length, get_or, drop, drop_of_length-le}
 use lib.Seq.{drop-cons}
-use Rattle.std.specs.Prelude.{Ok}
+use Rattle.std.specs.Prelude.{Result, Ok, Err, IsErr, IsErrAnd}
+use Rattle.std.proofs.lemmas.Result.{err_from_is_err_and}
+use Rattle.fields.specs.declared.Fault.{Fault}
 use Rattle.fields.specs.Fields.{Field, Checked, fault_at, nowhere, each_from, first_fault}
 
 -- what `omega` needs to answer a test
@@ -48,14 +50,18 @@ pub then_good : (xs ys : List Field) {r : Checked} → Ok tt ≡ first_fault xs 
 then_good [] ys g e = e
 then_good (f ∷ fs) ys g e = let h = head_passed f fs g in pass f (fs ++ ys) h.0 (then_good fs ys h.1 e)
 
-head_fault : (b : Bool) (later after fault : Checked) (n : ℕ) → fault_at n ≡ cond b later fault → (fault_at n ≡ later → fault_at n ≡ after) → fault_at n ≡ cond b after fault
-head_fault true later after fault n e k = k e
-head_fault false later after fault n e k = e
+head_fault : (b : Bool) (later after fault : Checked) (e : Fault) → Err e ≡ cond b later fault → (Err e ≡ later → Err e ≡ after) → Err e ≡ cond b after fault
+head_fault true later after fault e h k = k h
+head_fault false later after fault e h k = h
 
-pub then_fault : (xs ys : List Field) {n : ℕ} → fault_at n ≡ first_fault xs → fault_at n ≡ first_fault (xs ++ ys)
+pub then_fault : (xs ys : List Field) {e : Fault} → Err e ≡ first_fault xs → Err e ≡ first_fault (xs ++ ys)
 unfolding first_fault
-then_fault [] ys {n} e = absurd (fault≢good n e)
-then_fault (f ∷ fs) ys {n} e = head_fault f.keeps (first_fault fs) (first_fault (fs ++ ys)) (fault_at f.byte) n e (then_fault fs ys)
+then_fault [] ys {e} h = absurd (fault≢good e.byte h)
+then_fault (f ∷ fs) ys {e} h = head_fault f.keeps (first_fault fs) (first_fault (fs ++ ys)) (fault_at f.byte) e h (then_fault fs ys)
+
+-- a fault is handed on by `?` as it is
+pub handed : {A : Type 0} {r : Result A Fault} {e : Fault} → IsErr r × IsErrAnd r (λ (f : Fault). f ≡ e) → r ≡ Err e
+handed {r} h = let p = err_from_is_err_and r h.1 in p.1 ∙ ap Err p.2
 
 -- a record of n: its fields, then those of the records after it
 pub each_first : (fields : ℕ → List Field) (k n : ℕ) → k < n → each_from k (n - k) fields ≡ fields k ++ each_from (k + 1) (n - (k + 1)) fields
