@@ -6,24 +6,25 @@ use mathlib.Core.List.{List, [], ◌∷◌, ◌++◌}
 use Prim.Native.Nat.{ℕ, ◌+◌, ◌-◌, ◌≤◌}
 use native.Mathlib.Nat.{zero-add}
 use native.Mathlib.Omega.{arith}
-use Rattle.fields.specs.Fields.{Field, each, each_from, first_fault, WellFormed, FirstAt}
-use Rattle.fields.specs.declared.Checked.TheVariants.{Good, Fault}
+use Rattle.std.specs.Prelude.{Ok}
+use Rattle.fields.specs.Answers.{checked_place}
+use Rattle.fields.specs.Fields.{Field, fault_at, each, each_from, first_fault, WellFormed, FirstAt}
 use Rattle.fields.proofs.Formed.{each_more}
 use Rattle.fields.proofs.Searching.{pass, fail, done, head_passed, then_good, fault≢good}
 
 -- A check answers good exactly where every field keeps its rule.
-pub good_well_formed : (fs : List Field) → Good ≡ first_fault fs → WellFormed fs
+pub good_well_formed : (fs : List Field) → Ok tt ≡ first_fault fs → WellFormed fs
 unfolding WellFormed
 good_well_formed [] g = tt
 good_well_formed (f ∷ fs) g = let h = head_passed f fs g in (h.0, good_well_formed fs h.1)
 
-pub well_formed_good : (fs : List Field) → WellFormed fs → Good ≡ first_fault fs
+pub well_formed_good : (fs : List Field) → WellFormed fs → Ok tt ≡ first_fault fs
 unfolding WellFormed
 well_formed_good [] w = done
 well_formed_good (f ∷ fs) w = pass f fs w.0 (well_formed_good fs w.1)
 
-fault_here : (f : Field) (fs : List Field) (n : ℕ) (b : Bool) → f.keeps ≡ b → Fault n ≡ cond b (first_fault fs) (Fault f.byte)
-    → (Fault n ≡ first_fault fs → FirstAt fs n) → FirstAt (f ∷ fs) n
+fault_here : (f : Field) (fs : List Field) (n : ℕ) (b : Bool) → f.keeps ≡ b → fault_at n ≡ cond b (first_fault fs) (fault_at f.byte)
+    → (fault_at n ≡ first_fault fs → FirstAt fs n) → FirstAt (f ∷ fs) n
 unfolding WellFormed
 fault_here f fs n true k e later =
     let h = later e in
@@ -37,15 +38,15 @@ fault_here f fs n true k e later =
       place = h.place;
     }
 fault_here f fs n false k e later =
-    record { before = []; fault = f; after = fs; split = refl; kept = tt; broken = k; place = (cc) }
+    record { before = []; fault = f; after = fs; split = refl; kept = tt; broken = k; place = ap checked_place e }
 
 -- A check answers a fault exactly at the first field that breaks its rule.
-pub fault_first : (fs : List Field) (n : ℕ) → Fault n ≡ first_fault fs → FirstAt fs n
+pub fault_first : (fs : List Field) (n : ℕ) → fault_at n ≡ first_fault fs → FirstAt fs n
 unfolding first_fault
 fault_first [] n e = absurd (fault≢good n e)
 fault_first (f ∷ fs) n e = fault_here f fs n f.keeps refl e (fault_first fs n)
 
-pub first_fault_lem : (fs : List Field) (n : ℕ) → FirstAt fs n → Fault n ≡ first_fault fs
+pub first_fault_lem : (fs : List Field) (n : ℕ) → FirstAt fs n → fault_at n ≡ first_fault fs
 first_fault_lem fs n h =
     then_good h.before (h.fault ∷ h.after) (well_formed_good h.before h.kept) (fail h.fault h.after h.broken h.place)
     ∙ ap first_fault (sym h.split)

@@ -8,9 +8,10 @@ use borrow.Author.Tests.{le-leb, lt-leb, lt-ltb, le-ltb, eq-eqb, ne_eqb, not-tru
 use native.Mathlib.Numerals.{add-one}
 use lib.ListN.{length, get_or, drop, drop_of_length-le}
 use lib.Seq.{drop-cons}
-use Rattle.fields.specs.Fields.{Field, nowhere, each_from, first_fault}
-use Rattle.fields.specs.declared.Checked.{Checked}
-use Rattle.fields.specs.declared.Checked.TheVariants.{Good, Fault}
+use Rattle.std.specs.Prelude.{Result, Ok, Err, IsErr, IsErrAnd}
+use Rattle.std.proofs.lemmas.Result.{err_from_is_err_and}
+use Rattle.fields.specs.declared.Fault.{Fault}
+use Rattle.fields.specs.Fields.{Field, Checked, fault_at, nowhere, each_from, first_fault}
 
 -- what `omega` needs to answer a test
 pub ruleset tests = (arith, le-leb, lt-leb, lt-ltb, le-ltb, eq-eqb, ne_eqb)
@@ -22,41 +23,45 @@ last_of_three f h a b = omega arith
 -- a field that keeps its rule is passed, and one that breaks it ends the search
 pub pass : (f : Field) (fs : List Field) {r : Checked} → f.keeps ≡ true → r ≡ first_fault fs → r ≡ first_fault (f ∷ fs)
 unfolding first_fault
-pass f fs h e = e ∙ ap (λ (b : Bool). cond b (first_fault fs) (Fault f.byte)) (sym h)
+pass f fs h e = e ∙ ap (λ (b : Bool). cond b (first_fault fs) (fault_at f.byte)) (sym h)
 
-pub fail : (f : Field) (fs : List Field) {n : ℕ} → f.keeps ≡ false → n ≡ f.byte → Fault n ≡ first_fault (f ∷ fs)
+pub fail : (f : Field) (fs : List Field) {n : ℕ} → f.keeps ≡ false → n ≡ f.byte → fault_at n ≡ first_fault (f ∷ fs)
 unfolding first_fault
-fail f fs h e = ap Fault e ∙ ap (λ (b : Bool). cond b (first_fault fs) (Fault f.byte)) (sym h)
+fail f fs h e = ap fault_at e ∙ ap (λ (b : Bool). cond b (first_fault fs) (fault_at f.byte)) (sym h)
 
-pub done : Good ≡ first_fault []
+pub done : Ok tt ≡ first_fault []
 unfolding first_fault
 done = refl
 
 -- the fields that keep their rules are taken off
-tail_good : (b : Bool) (later fault : Checked) → Good ≡ cond b later fault → (fault ≡ Good → ⊥) → (b ≡ true) × (Good ≡ later)
+tail_good : (b : Bool) (later fault : Checked) → Ok tt ≡ cond b later fault → (fault ≡ Ok tt → ⊥) → (b ≡ true) × (Ok tt ≡ later)
 tail_good true later fault e n = (refl, e)
 tail_good false later fault e n = absurd (n (sym e))
 
-pub fault≢good : (n : ℕ) → Fault n ≡ Good → ⊥
+pub fault≢good : (n : ℕ) → fault_at n ≡ Ok tt → ⊥
 fault≢good n e = let z : ◌≡◌ {A = ℕ} 0 1 = cc in omega arith
 
-pub head_passed : (f : Field) (fs : List Field) → Good ≡ first_fault (f ∷ fs) → (f.keeps ≡ true) × (Good ≡ first_fault fs)
+pub head_passed : (f : Field) (fs : List Field) → Ok tt ≡ first_fault (f ∷ fs) → (f.keeps ≡ true) × (Ok tt ≡ first_fault fs)
 unfolding first_fault
-head_passed f fs e = tail_good f.keeps (first_fault fs) (Fault f.byte) e (fault≢good f.byte)
+head_passed f fs e = tail_good f.keeps (first_fault fs) (fault_at f.byte) e (fault≢good f.byte)
 
 -- one part after another: the second is searched where the first is good
-pub then_good : (xs ys : List Field) {r : Checked} → Good ≡ first_fault xs → r ≡ first_fault ys → r ≡ first_fault (xs ++ ys)
+pub then_good : (xs ys : List Field) {r : Checked} → Ok tt ≡ first_fault xs → r ≡ first_fault ys → r ≡ first_fault (xs ++ ys)
 then_good [] ys g e = e
 then_good (f ∷ fs) ys g e = let h = head_passed f fs g in pass f (fs ++ ys) h.0 (then_good fs ys h.1 e)
 
-head_fault : (b : Bool) (later after fault : Checked) (n : ℕ) → Fault n ≡ cond b later fault → (Fault n ≡ later → Fault n ≡ after) → Fault n ≡ cond b after fault
-head_fault true later after fault n e k = k e
-head_fault false later after fault n e k = e
+head_fault : (b : Bool) (later after fault : Checked) (e : Fault) → Err e ≡ cond b later fault → (Err e ≡ later → Err e ≡ after) → Err e ≡ cond b after fault
+head_fault true later after fault e h k = k h
+head_fault false later after fault e h k = h
 
-pub then_fault : (xs ys : List Field) {n : ℕ} → Fault n ≡ first_fault xs → Fault n ≡ first_fault (xs ++ ys)
+pub then_fault : (xs ys : List Field) {e : Fault} → Err e ≡ first_fault xs → Err e ≡ first_fault (xs ++ ys)
 unfolding first_fault
-then_fault [] ys {n} e = absurd (fault≢good n e)
-then_fault (f ∷ fs) ys {n} e = head_fault f.keeps (first_fault fs) (first_fault (fs ++ ys)) (Fault f.byte) n e (then_fault fs ys)
+then_fault [] ys {e} h = absurd (fault≢good e.byte h)
+then_fault (f ∷ fs) ys {e} h = head_fault f.keeps (first_fault fs) (first_fault (fs ++ ys)) (fault_at f.byte) e h (then_fault fs ys)
+
+-- a fault is handed on by `?` as it is
+pub handed : {A : Type 0} {r : Result A Fault} {e : Fault} → IsErr r × IsErrAnd r (λ (f : Fault). f ≡ e) → r ≡ Err e
+handed {r} h = let p = err_from_is_err_and r h.1 in p.1 ∙ ap Err p.2
 
 -- a record of n: its fields, then those of the records after it
 pub each_first : (fields : ℕ → List Field) (k n : ℕ) → k < n → each_from k (n - k) fields ≡ fields k ++ each_from (k + 1) (n - (k + 1)) fields
@@ -98,11 +103,11 @@ module _ (fields : ℕ → List Field) (n w : ℕ) (wide : (k : ℕ) → length 
       (drop_of_length-le (fields k) {i = f} (rw (wide k) h))
 
   tested : (k f : ℕ) (b : Bool) → f < w → b ≡ (get_or (fields k) f nowhere).keeps → r ≡ first_fault (left fields n k f)
-      → r ≡ cond b (first_fault (left fields n k (f + 1))) (Fault (get_or (fields k) f nowhere).byte)
+      → r ≡ cond b (first_fault (left fields n k (f + 1))) (fault_at (get_or (fields k) f nowhere).byte)
   unfolding first_fault
   tested k f b h t e =
       e ∙ ap first_fault (next_field fields n w wide k f h)
-      ∙ ap (λ (b : Bool). cond b (first_fault (left fields n k (f + 1))) (Fault (get_or (fields k) f nowhere).byte)) (sym t)
+      ∙ ap (λ (b : Bool). cond b (first_fault (left fields n k (f + 1))) (fault_at (get_or (fields k) f nowhere).byte)) (sym t)
 
   -- field f of record k keeps its rule, by a test b, and is passed
   pub passed : (k f : ℕ) (b : Bool) → f < w → b ≡ (get_or (fields k) f nowhere).keeps → not b ≡ false
@@ -111,9 +116,9 @@ module _ (fields : ℕ → List Field) (n w : ℕ) (wide : (k : ℕ) → length 
 
   -- field f of record k breaks its rule and ends the search
   pub failed : (k f : ℕ) (b : Bool) → f < w → b ≡ (get_or (fields k) f nowhere).keeps → not b ≡ true
-      → r ≡ first_fault (left fields n k f) → r ≡ Fault (get_or (fields k) f nowhere).byte
+      → r ≡ first_fault (left fields n k f) → r ≡ fault_at (get_or (fields k) f nowhere).byte
   failed k f b h t q e = rw (not-true b q) at (tested k f b h t e)
 
-  pub finished : (k : ℕ) → n ≤ k → r ≡ first_fault (each_from k (n - k) fields) → r ≡ Good
+  pub finished : (k : ℕ) → n ≤ k → r ≡ first_fault (each_from k (n - k) fields) → r ≡ Ok tt
   unfolding first_fault
   finished k h e = e ∙ ap first_fault (each_none fields k n h)

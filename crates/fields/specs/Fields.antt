@@ -1,7 +1,6 @@
 -- Fields of an image and the search for the first that breaks its rule. An image is the list of its bytes.
-use Rattle.std.specs.Prelude.{◌≡◌, Bool, true, false, cond, List, [], ◌∷◌, ◌++◌, ℕ, zero, suc, ◌+◌, ◌*◌, ◌<◌, get_or}
-use Rattle.fields.specs.declared.Checked.{Checked}
-use Rattle.fields.specs.declared.Checked.TheVariants.{Good, Fault}
+use Rattle.std.specs.Prelude.{◌≡◌, Bool, true, false, cond, List, [], ◌∷◌, ◌++◌, ℕ, zero, suc, ◌+◌, ◌*◌, ◌<◌, get_or, Result, Ok, Err}
+use Rattle.fields.specs.declared.Fault.{Fault}
 
 -- "All fields are unsigned, 16 bits, low byte first": the field at byte i; a byte past the end counts as 0
 unfoldable pub field_at : List ℕ → ℕ → ℕ
@@ -38,10 +37,18 @@ unfoldable pub WellFormed : List Field → Type 0
 WellFormed [] = Unit {0}
 WellFormed (f ∷ fs) = (f.keeps ≡ true) × WellFormed fs
 
+-- what the check of an image answers: `Ok tt` where every field keeps its rule, else a fault
+abbrev pub Checked : Type 0
+Checked = Result (Unit {0}) Fault
+
+-- the fault at a byte
+abbrev pub fault_at : ℕ → Checked
+fault_at n = Err (record { byte = n })
+
 -- "the first field that breaks its rule ends the whole search"
 unfoldable pub first_fault : List Field → Checked
-first_fault [] = Good
-first_fault (f ∷ fs) = let later = first_fault fs in cond f.keeps later (Fault f.byte)
+first_fault [] = Ok tt
+first_fault (f ∷ fs) = let later = first_fault fs in cond f.keeps later (fault_at f.byte)
 
 -- that first field stands at byte n: all before it keep their rules
 pub record FirstAt (fs : List Field) (n : ℕ) : Type 0 where

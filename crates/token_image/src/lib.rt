@@ -6,11 +6,11 @@ ghost use Rattle.fields.specs.Fields.{field_at, first_fault, nowhere};
 ghost use Rattle.token_image.specs.TokenImage.{header_fields, record_fields, records_fields, token_fields};
 ghost use Rattle.token_image.specs.TokenImage.{token_count, TokenIs};
 
-use fields::{Checked, field_at};
+use fields::{Fault, field_at};
 use rules::{TOKENS, column_allowed};
 
 // A token with its column.
-#[derive(Clone, Copy)]
+#[derive(Clone, Copy, Debug, PartialEq, Eq)]
 pub struct Token {
     pub terminal: u16,
     pub column: u16,
@@ -45,28 +45,28 @@ pub fn token_at(image: &[u8], k: u16) -> Token
 }
 
 // The header's fields.
-fn check_header(image: &[u8]) -> Checked
+fn check_header(image: &[u8]) -> Result<(), Fault>
     ensures { result ≡ first_fault (header_fields image.now) }
 {
     let length = image.len();
     if length < 6 {
-        return Checked::Fault(length as u32);
+        return Err(Fault { byte: length as u32 });
     }
     let count = field_at(image, 0);
     if count > TOKENS {
-        return Checked::Fault(0);
+        return Err(Fault { byte: 0 });
     }
     if field_at(image, 2) != 6 {
-        return Checked::Fault(2);
+        return Err(Fault { byte: 2 });
     }
     let total = field_at(image, 4) as usize;
     if total != 6 + 4 * (count as usize) {
-        return Checked::Fault(4);
+        return Err(Fault { byte: 4 });
     }
     if total != length {
-        return Checked::Fault(4);
+        return Err(Fault { byte: 4 });
     }
-    Checked::Good
+    Ok(())
 }
 
 // Whether field f of token k keeps its rule.
@@ -83,12 +83,12 @@ fn token_keeps(image: &[u8], terminals: u16, k: usize, f: usize) -> bool
 }
 
 // The tokens' fields.
-fn check_records(image: &[u8], terminals: u16) -> Checked
+fn check_records(image: &[u8], terminals: u16) -> Result<(), Fault>
     requires { 6 + 4 * token_count image.now ≤ length image.now }
     ensures { result ≡ first_fault (records_fields terminals image.now) }
 {
     let count = field_at(image, 0) as usize;
-    let fault = 'search: loop {
+    let byte = 'search: loop {
         for k in 0..count {
             for f in 0..2 {
                 if !token_keeps(image, terminals, k, f) {
@@ -96,18 +96,16 @@ fn check_records(image: &[u8], terminals: u16) -> Checked
                 }
             }
         }
-        return Checked::Good;
+        return Ok(());
     };
-    Checked::Fault(fault)
+    Err(Fault { byte })
 }
 
 // Whether an image is a well-formed token image for a grammar of so many terminals: good, or the
 // byte of the first field that breaks its rule, or the image's length where that is under 6.
-pub fn check_tokens(image: &[u8], terminals: u16) -> Checked
+pub fn check_tokens(image: &[u8], terminals: u16) -> Result<(), Fault>
     ensures { result ≡ first_fault (token_fields terminals image.now) }
 {
-    match check_header(image) {
-        Checked::Fault(at) => Checked::Fault(at),
-        Checked::Good => check_records(image, terminals),
-    }
+    check_header(image)?;
+    check_records(image, terminals)
 }

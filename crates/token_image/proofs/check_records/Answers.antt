@@ -1,8 +1,7 @@
 -- Each turn takes a field off what is left to be searched.
 use Rattle.std.proofs.Common.{◌≡◌, ℕ, zero, suc, ◌+◌, ◌*◌, ◌-◌, ◌<◌, List, length, get_or, refl, sym, ap, ◌∙◌, arith}
 use mathlib.Core.Bool.{not}
-use Rattle.fields.specs.Fields.{each_from, first_fault, nowhere}
-use Rattle.fields.specs.declared.Checked.TheVariants.{Fault}
+use Rattle.fields.specs.Fields.{fault_at, each_from, first_fault, nowhere}
 use Rattle.token_image.specs.TokenImage.{token_count, record_fields, records_fields}
 use Rattle.fields.proofs.Searching.{turn, turned, passed, failed, finished}
 use Rattle.token_image.proofs.check_records.Goals as goal
@@ -52,5 +51,5 @@ pub returns : goal.returns
 returns c =
     let T = c.args.terminals in
     let image = c.args.image.now in
-    ap Fault (byte_of T image _ _ c.loop-f-test.true)
+    ap fault_at (byte_of T image _ _ c.loop-f-test.true)
     ∙ sym (failed (record_fields T image) c.field_at-count.result 2 (two T image) c.loop-k.k c.loop-f.f _ c.loop-f-test.true c.token_keeps.ensures (ap not c.if-not-token_keeps.true) c.loop-f.invariant)
