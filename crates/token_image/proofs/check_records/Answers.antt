@@ -51,5 +51,6 @@ pub returns : goal.returns
 returns c =
     let T = c.args.terminals in
     let image = c.args.image.now in
-    ap fault_at (byte_of T image _ _ c.loop-f-test.true)
+    let there = byte_of T image c.loop-k.k c.loop-f.f c.loop-f-test.true in
+    ap fault_at (omega arith)
     ∙ sym (failed (record_fields T image) c.token_count-count.result 2 (two T image) c.loop-k.k c.loop-f.f _ c.loop-f-test.true c.token_keeps.ensures (ap not c.if-not-token_keeps.true) c.loop-f.invariant)

@@ -1,6 +1,6 @@
 -- Each turn takes a node's field off what is left to be searched.
-use Rattle.std.proofs.Common.{◌≡◌, ℕ, ◌-◌, List, length, get_or, true, false, refl, sym, ap, arith}
-use Rattle.fields.specs.Fields.{each_from, first_fault, nowhere}
+use Rattle.std.proofs.Common.{◌≡◌, ℕ, ◌-◌, List, length, get_or, true, false, refl, sym, ap, ◌∙◌, arith}
+use Rattle.fields.specs.Fields.{fault_at, each_from, first_fault, nowhere}
 use Rattle.tree_image.specs.TreeImage.{node_count, record_fields, records_fields}
 use Rattle.fields.proofs.Searching.{tests, turn, turned, passed, failed, finished}
 use Rattle.tree_image.proofs.check_records.Goals as goal
@@ -43,4 +43,4 @@ returns c =
     let count = c.node_count-count.result in
     let breaks : (get_or (record_fields P image n) 0 nowhere).keeps ≡ false = omega tests in
     let next = turn (record_fields P image) count 1 (one P image) n c.loop-n-test.true c.loop-n.invariant in
-    sym (failed (record_fields P image) count 1 (one P image) n 0 false (omega arith) (sym breaks) refl next)
+    ap fault_at (omega arith) ∙ sym (failed (record_fields P image) count 1 (one P image) n 0 false (omega arith) (sym breaks) refl next)
