@@ -29,6 +29,11 @@ pub fail : (f : Field) (fs : List Field) {n : ℕ} → f.keeps ≡ false → n �
 unfolding first_fault
 fail f fs h e = ap fault_at e ∙ ap (λ (b : Bool). cond b (first_fault fs) (fault_at f.byte)) (sym h)
 
+-- behind a field, one that always keeps its rule is none
+pub kept_second : (f g : Field) (fs : List Field) → g.keeps ≡ true → first_fault (f ∷ g ∷ fs) ≡ first_fault (f ∷ fs)
+unfolding first_fault
+kept_second f g fs h = ap (λ (r : Checked). cond f.keeps r (fault_at f.byte)) (sym (pass g fs h refl))
+
 pub done : Ok tt ≡ first_fault []
 unfolding first_fault
 done = refl

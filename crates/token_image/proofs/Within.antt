@@ -1,12 +1,21 @@
 -- Where the header and the tokens of a well-formed token image lie: what its readers ask for.
 use mathlib.Core.List.{List}
+use Rattle.std.proofs.Common.{◌≡◌}
+use Rattle.rules.specs.Limits.{max_tokens}
 use Prim.Native.Nat.{ℕ, ◌+◌, ◌*◌, ◌<◌, ◌≤◌}
 use native.Mathlib.Omega.{arith}
 use borrow.Author.Tests.{eqb-true}
 use lib.ListN.{length}
-use Rattle.fields.specs.Fields.{field_at, WellFormed}
+use Rattle.fields.specs.Fields.{field_at, counted_fields, first_fault, WellFormed}
 use Rattle.token_image.specs.TokenImage.{token_count, header_fields, records_fields, token_fields}
 use Rattle.fields.proofs.Formed.{formed_parts}
+use Rattle.fields.proofs.Searching.{tests, kept_second}
+
+-- its header is one with a count, of which the least is no rule
+pub header_lem : (image : List ℕ)
+    → first_fault (counted_fields (record { least = 0; most = max_tokens; bytes = 6; record_bytes = 4 }) image) ≡ first_fault (header_fields image)
+unfolding header_fields counted_fields
+header_lem image = kept_second _ _ _ (omega tests)
 
 -- the tokens end where the image does
 pub tokens_within : (image : List ℕ) → WellFormed (header_fields image) → 6 + 4 * token_count image ≤ length image

@@ -6,7 +6,7 @@ ghost use Rattle.fields.specs.Fields.{field_at, first_fault, nowhere};
 ghost use Rattle.token_image.specs.TokenImage.{header_fields, record_fields, records_fields, token_fields};
 ghost use Rattle.token_image.specs.TokenImage.{token_count, TokenIs};
 
-use fields::{Fault, field_at};
+use fields::{Fault, Header, field_at};
 use rules::{TOKENS, column_allowed};
 
 // A token with its column.
@@ -48,25 +48,13 @@ pub fn token_at(image: &[u8], k: u16) -> Token
 fn check_header(image: &[u8]) -> Result<(), Fault>
     ensures { result ≡ first_fault (header_fields image.now) }
 {
-    let length = image.len();
-    if length < 6 {
-        return Err(Fault { byte: length as u32 });
-    }
-    let count = field_at(image, 0);
-    if count > TOKENS {
-        return Err(Fault { byte: 0 });
-    }
-    if field_at(image, 2) != 6 {
-        return Err(Fault { byte: 2 });
-    }
-    let total = field_at(image, 4) as usize;
-    if total != 6 + 4 * (count as usize) {
-        return Err(Fault { byte: 4 });
-    }
-    if total != length {
-        return Err(Fault { byte: 4 });
-    }
-    Ok(())
+    let header = Header {
+        least: 0,
+        most: TOKENS,
+        bytes: 6,
+        record_bytes: 4,
+    };
+    header.check(image)
 }
 
 // Whether field f of token k keeps its rule.
@@ -87,7 +75,7 @@ fn check_records(image: &[u8], terminals: u16) -> Result<(), Fault>
     requires { 6 + 4 * token_count image.now ≤ length image.now }
     ensures { result ≡ first_fault (records_fields terminals image.now) }
 {
-    let count = field_at(image, 0) as usize;
+    let count = token_count(image) as usize;
     let byte = 'search: loop {
         for k in 0..count {
             for f in 0..2 {
@@ -101,8 +89,8 @@ fn check_records(image: &[u8], terminals: u16) -> Result<(), Fault>
     Err(Fault { byte })
 }
 
-// Whether an image is a well-formed token image for a grammar of so many terminals: good, or the
-// byte of the first field that breaks its rule, or the image's length where that is under 6.
+// Whether an image is a well-formed token image for a grammar of so many terminals: if not, the byte of the first
+// field that breaks its rule, or the image's length where that is under 6.
 pub fn check_tokens(image: &[u8], terminals: u16) -> Result<(), Fault>
     ensures { result ≡ first_fault (token_fields terminals image.now) }
 {

@@ -1,12 +1,20 @@
 -- Where the header and the nodes of a well-formed tree image lie: what its readers ask for.
 use mathlib.Core.List.{List}
+use Rattle.std.proofs.Common.{◌≡◌, refl}
+use Rattle.rules.specs.Limits.{max_nodes}
 use Prim.Native.Nat.{ℕ, ◌+◌, ◌*◌, ◌<◌, ◌≤◌}
 use native.Mathlib.Omega.{arith}
 use borrow.Author.Tests.{eqb-true, ltb-true}
 use lib.ListN.{length}
-use Rattle.fields.specs.Fields.{field_at, WellFormed}
+use Rattle.fields.specs.Fields.{field_at, counted_fields, first_fault, WellFormed}
 use Rattle.tree_image.specs.TreeImage.{node_count, node_at, header_fields, record_fields, records_fields, tree_fields}
 use Rattle.fields.proofs.Formed.{formed_parts, each_formed}
+
+-- its header is one with a count
+pub header_lem : (image : List ℕ)
+    → first_fault (counted_fields (record { least = 1; most = max_nodes; bytes = 6; record_bytes = 2 }) image) ≡ first_fault (header_fields image)
+unfolding header_fields counted_fields first_fault
+header_lem image = refl
 
 -- the nodes end where the image does
 pub nodes_within : (image : List ℕ) → WellFormed (header_fields image) → 6 + 2 * node_count image ≤ length image

@@ -5,7 +5,7 @@ ghost use Rattle.std.specs.Prelude.{◌≡◌, ◌+◌, ◌*◌, ◌≤◌, leng
 ghost use Rattle.fields.specs.Fields.{first_fault};
 ghost use Rattle.tree_image.specs.TreeImage.{header_fields, records_fields, tree_fields, node_count, node_at};
 
-use fields::{Checked, field_at};
+use fields::{Fault, Header, field_at};
 use rules::NODES;
 
 // The number of nodes.
@@ -25,58 +25,41 @@ pub fn node_at(image: &[u8], n: u16) -> u16
 }
 
 // The header's fields.
-fn check_header(image: &[u8]) -> Checked
+fn check_header(image: &[u8]) -> Result<(), Fault>
     ensures { result ≡ first_fault (header_fields image.now) }
 {
-    let length = image.len();
-    if length < 6 {
-        return Checked::Fault(length as u32);
-    }
-    let count = field_at(image, 0);
-    if count < 1 {
-        return Checked::Fault(0);
-    }
-    if count > NODES {
-        return Checked::Fault(0);
-    }
-    if field_at(image, 2) != 6 {
-        return Checked::Fault(2);
-    }
-    let total = field_at(image, 4) as usize;
-    if total != 6 + 2 * (count as usize) {
-        return Checked::Fault(4);
-    }
-    if total != length {
-        return Checked::Fault(4);
-    }
-    Checked::Good
+    let header = Header {
+        least: 1,
+        most: NODES,
+        bytes: 6,
+        record_bytes: 2,
+    };
+    header.check(image)
 }
 
 // The nodes, which are a field each.
-fn check_records(image: &[u8], productions: u16) -> Checked
+fn check_records(image: &[u8], productions: u16) -> Result<(), Fault>
     requires { 6 + 2 * node_count image.now ≤ length image.now }
     ensures { result ≡ first_fault (records_fields productions image.now) }
 {
-    let count = field_at(image, 0) as usize;
-    let fault = 'search: loop {
+    let count = node_count(image) as usize;
+    let byte = 'search: loop {
         for n in 0..count {
             let at = 6 + 2 * n;
             if field_at(image, at) >= productions {
                 break 'search at as u32;
             }
         }
-        return Checked::Good;
+        return Ok(());
     };
-    Checked::Fault(fault)
+    Err(Fault { byte })
 }
 
-// Whether an image is a well-formed tree image for a grammar of so many productions: good, or the
-// byte of the first field that breaks its rule, or the image's length where that is under 6.
-pub fn check_tree(image: &[u8], productions: u16) -> Checked
+// Whether an image is a well-formed tree image for a grammar of so many productions: if not, the byte of the first
+// field that breaks its rule, or the image's length where that is under 6.
+pub fn check_tree(image: &[u8], productions: u16) -> Result<(), Fault>
     ensures { result ≡ first_fault (tree_fields productions image.now) }
 {
-    match check_header(image) {
-        Checked::Fault(at) => Checked::Fault(at),
-        Checked::Good => check_records(image, productions),
-    }
+    check_header(image)?;
+    check_records(image, productions)
 }
