@@ -1,6 +1,7 @@
 -- Fields of an image and the search for the first that breaks its rule. An image is the list of its bytes.
-use Rattle.std.specs.Prelude.{◌≡◌, Bool, true, false, cond, List, [], ◌∷◌, ◌++◌, ℕ, zero, suc, ◌+◌, ◌*◌, ◌<◌, get_or, Result, Ok, Err}
+use Rattle.std.specs.Prelude.{◌≡◌, Bool, true, false, cond, List, [], ◌∷◌, ◌++◌, ℕ, zero, suc, ◌+◌, ◌*◌, ◌<◌, leb, eqb, length, get_or, Result, Ok, Err}
 use Rattle.fields.specs.declared.Fault.{Fault}
+use Rattle.fields.specs.declared.Header.{Header}
 
 -- "All fields are unsigned, 16 bits, low byte first": the field at byte i; a byte past the end counts as 0
 unfoldable pub field_at : List ℕ → ℕ → ℕ
@@ -31,6 +32,17 @@ each_from k (suc n) fields = fields k ++ each_from (suc k) n fields
 -- the fields of n records
 abbrev pub each : ℕ → (ℕ → List Field) → List Field
 each n fields = each_from 0 n fields
+
+-- "count", "offset" and "total length, also the real length": the fields of a header with one count
+unfoldable pub counted_fields : Header → List ℕ → List Field
+counted_fields h image =
+    field (length image) (leb h.bytes (length image))
+    ∷ field 0 (leb h.least (field_at image 0))
+    ∷ field 0 (leb (field_at image 0) h.most)
+    ∷ field 2 (eqb (field_at image 2) h.bytes)
+    ∷ field 4 (eqb (field_at image 4) (h.bytes + h.record_bytes * field_at image 0))
+    ∷ field 4 (eqb (field_at image 4) (length image))
+    ∷ []
 
 -- "Fields are tested in order of position": an image is well formed when every field keeps its rule
 unfoldable pub WellFormed : List Field → Type 0
