@@ -212,12 +212,12 @@ module _ (productions : List ℕ) (room : ℕ) where
   tree_many g h = rw (le-leb 1 (length productions) g, lt-leb (length productions) max_nodes h)
 
   module _ (some : 1 ≤ length productions) (fits : length productions ≤ max_nodes) where
-    pub tree_fitted : into_room (6 + 2 * length productions) room ≡ tree_answer productions room
+    pub tree_fitted : {needed : ℕ} → needed ≡ 6 + 2 * length productions → into_room needed room ≡ tree_answer productions room
     unfolding tree_answer
-    tree_fitted = rw (le-leb 1 (length productions) some, le-leb (length productions) max_nodes fits)
+    tree_fitted size = rw (size, le-leb 1 (length productions) some, le-leb (length productions) max_nodes fits)
 
     pub tree_written : 6 + 2 * length productions ≤ room → Ok (6 + 2 * length productions) ≡ tree_answer productions room
-    tree_written h = rw (le-leb (6 + 2 * length productions) room h) at tree_fitted
+    tree_written h = rw (le-leb (6 + 2 * length productions) room h) at (tree_fitted refl)
 
 -- what the token packer answers
 module _ (terminals columns : List ℕ) (room : ℕ) where
@@ -239,11 +239,11 @@ module _ (terminals columns : List ℕ) (room : ℕ) where
       tokens_column h = past_fault (first_fault (column_fields columns)) h (into_room (6 + 4 * length terminals) room) ∙ columns_next refl
 
       module _ (low : Ok tt ≡ first_fault (column_fields columns)) where
-        pub tokens_fitted : into_room (6 + 4 * length terminals) room ≡ token_answer terminals columns room
-        tokens_fitted = columns_next low
+        pub tokens_fitted : {needed : ℕ} → needed ≡ 6 + 4 * length terminals → into_room needed room ≡ token_answer terminals columns room
+        tokens_fitted size = rw size (columns_next low)
 
         pub tokens_written : 6 + 4 * length terminals ≤ room → Ok (6 + 4 * length terminals) ≡ token_answer terminals columns room
-        tokens_written h = rw (le-leb (6 + 4 * length terminals) room h) at tokens_fitted
+        tokens_written h = rw (le-leb (6 + 4 * length terminals) room h) at (tokens_fitted refl)
 
 -- the packers' answers, read backwards
 chosen : (b : Bool) (answer refusal : Packed) (n : ℕ) → (refusal ≡ Ok n → ⊥) → cond b answer refusal ≡ Ok n → (b ≡ true) × (answer ≡ Ok n)

@@ -15,4 +15,4 @@ returns-in_err-check_columns c =
     ∙ tokens_column _ _ _ (omega arith) (omega arith) c.in_err-check_columns.ensures
 
 pub returns : goal.returns
-returns c = c.into_room.ensures ∙ tokens_fitted _ _ _ (omega arith) (omega arith) (past_good _ c.in_ok-check_columns.ensures)
+returns c = c.into_room.ensures ∙ tokens_fitted _ _ _ (omega arith) (omega arith) (past_good _ c.in_ok-check_columns.ensures) (omega arith)

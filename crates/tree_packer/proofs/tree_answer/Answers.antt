@@ -10,4 +10,4 @@ pub returns-then-count : goal.returns-then-count
 returns-then-count c = tree_many _ _ (omega arith) (omega arith)
 
 pub returns : goal.returns
-returns c = c.into_room.ensures ∙ tree_fitted _ _ (omega arith) (omega arith)
+returns c = c.into_room.ensures ∙ tree_fitted _ _ (omega arith) (omega arith) (omega arith)
