@@ -12,11 +12,13 @@ use lib.Seq.{get_or-append-add, take-length}
 use borrow.Author.Tests.{le-leb, lt-leb, eq-eqb, ne_eqb, leb-true, eqb-true}
 use Rattle.rules.specs.Limits.{max_nodes, max_tokens}
 use Rattle.fields.specs.Fields.{field_at, Bytes, Field, field, WellFormed, first_fault, list_from, list}
-use Rattle.packers.specs.Packing.{bytes_of, in_turn, into_room, tree_answer, column_fields, past_columns, token_answer}
-use Rattle.fields.specs.declared.Checked.{Checked}
-use Rattle.fields.specs.declared.Checked.TheVariants.{Good, Fault}
-use Rattle.packers.specs.declared.Packed.{Packed}
-use Rattle.packers.specs.declared.Packed.TheVariants.{Written, Entries, Column, Room}
+use Rattle.packers.specs.Packing.{bytes_of, in_turn, into_room, tree_answer, column_fields, past_columns, columns_refusal, token_answer}
+use Rattle.std.specs.Prelude.{Result, Ok, Err, IsErr, IsErrAnd}
+use Rattle.std.proofs.lemmas.Result.{err_from_is_err_and}
+use Rattle.fields.specs.Fields.{Checked}
+use Rattle.packers.specs.declared.Refusal.{Refusal}
+use Rattle.packers.specs.declared.Refusal.TheVariants.{Entries, Column, Room}
+use Rattle.packers.specs.Answers.{Packed}
 use Rattle.fields.proofs.Formed.{both_true}
 
 -- the fields of a tree image, and of a token image
@@ -186,33 +188,45 @@ image_back image n total size bytes h =
     at : (i : ℕ) → 6 + 2 * (i + 0) ≡ 2 * (i + 3)
     at i = omega arith
 
+-- a refusal that `?` hands on is the one that was met
+pub handed : {A : Type 0} {r : Result A Refusal} {e : Refusal} → IsErr r × IsErrAnd r (λ f. f ≡ e) → r ≡ Err e
+handed {r} h = let p = err_from_is_err_and r h.1 in p.1 ∙ ap Err p.2
+
+-- what is found of the columns, before the rest of the answer
+past_fault : (r : Checked) {e : Refusal} → Err e ≡ columns_refusal r → (answer : Packed) → Err e ≡ past_columns r answer
+past_fault (Ok good) h answer = absurd (let z : ◌≡◌ {A = ℕ} 0 1 = cc in omega arith)
+past_fault (Err fault) h answer = cc
+
+pub past_good : (r : Checked) → Ok tt ≡ columns_refusal r → Ok tt ≡ r
+past_good (Ok good) h = refl
+past_good (Err fault) h = absurd (let z : ◌≡◌ {A = ℕ} 0 1 = cc in omega arith)
+
 -- what the tree packer answers
 module _ (productions : List ℕ) (room : ℕ) where
-  pub tree_few : length productions < 1 → Entries ≡ tree_answer productions room
+  pub tree_few : length productions < 1 → Err Entries ≡ tree_answer productions room
   unfolding tree_answer
   tree_few h = rw (lt-leb 1 (length productions) h)
 
-  pub tree_many : 1 ≤ length productions → max_nodes < length productions → Entries ≡ tree_answer productions room
+  pub tree_many : 1 ≤ length productions → max_nodes < length productions → Err Entries ≡ tree_answer productions room
   unfolding tree_answer
   tree_many g h = rw (le-leb 1 (length productions) g, lt-leb (length productions) max_nodes h)
 
   module _ (some : 1 ≤ length productions) (fits : length productions ≤ max_nodes) where
-    pub tree_room : room < 6 + 2 * length productions → Room (6 + 2 * length productions) ≡ tree_answer productions room
+    pub tree_fitted : {needed : ℕ} → needed ≡ 6 + 2 * length productions → into_room needed room ≡ tree_answer productions room
     unfolding tree_answer
-    tree_room h = rw (le-leb 1 (length productions) some, le-leb (length productions) max_nodes fits, lt-leb (6 + 2 * length productions) room h)
+    tree_fitted size = rw (size, le-leb 1 (length productions) some, le-leb (length productions) max_nodes fits)
 
-    pub tree_written : 6 + 2 * length productions ≤ room → Written (6 + 2 * length productions) ≡ tree_answer productions room
-    unfolding tree_answer
-    tree_written h = rw (le-leb 1 (length productions) some, le-leb (length productions) max_nodes fits, le-leb (6 + 2 * length productions) room h)
+    pub tree_written : 6 + 2 * length productions ≤ room → Ok (6 + 2 * length productions) ≡ tree_answer productions room
+    tree_written h = rw (le-leb (6 + 2 * length productions) room h) at (tree_fitted refl)
 
 -- what the token packer answers
 module _ (terminals columns : List ℕ) (room : ℕ) where
-  pub tokens_unequal : (length terminals ≡ length columns → ⊥) → Entries ≡ token_answer terminals columns room
+  pub tokens_unequal : (length terminals ≡ length columns → ⊥) → Err Entries ≡ token_answer terminals columns room
   unfolding token_answer
   tokens_unequal h = rw (ne_eqb (length terminals) (length columns) h)
 
   module _ (same : length terminals ≡ length columns) where
-    pub tokens_many : max_tokens < length terminals → Entries ≡ token_answer terminals columns room
+    pub tokens_many : max_tokens < length terminals → Err Entries ≡ token_answer terminals columns room
     unfolding token_answer
     tokens_many h = rw (eq-eqb (length terminals) (length columns) same, lt-leb (length terminals) max_tokens h)
 
@@ -221,33 +235,33 @@ module _ (terminals columns : List ℕ) (room : ℕ) where
       unfolding token_answer
       columns_next e = rw (eq-eqb (length terminals) (length columns) same, le-leb (length terminals) max_tokens fits, ← e)
 
-      pub tokens_column : {k : ℕ} → Fault k ≡ first_fault (column_fields columns) → Column k ≡ token_answer terminals columns room
-      tokens_column = columns_next
+      pub tokens_column : {e : Refusal} → Err e ≡ columns_refusal (first_fault (column_fields columns)) → Err e ≡ token_answer terminals columns room
+      tokens_column h = past_fault (first_fault (column_fields columns)) h (into_room (6 + 4 * length terminals) room) ∙ columns_next refl
 
-      module _ (low : Good ≡ first_fault (column_fields columns)) where
-        pub tokens_room : room < 6 + 4 * length terminals → Room (6 + 4 * length terminals) ≡ token_answer terminals columns room
-        tokens_room h = rw (lt-leb (6 + 4 * length terminals) room h) at (columns_next low)
+      module _ (low : Ok tt ≡ first_fault (column_fields columns)) where
+        pub tokens_fitted : {needed : ℕ} → needed ≡ 6 + 4 * length terminals → into_room needed room ≡ token_answer terminals columns room
+        tokens_fitted size = rw size (columns_next low)
 
-        pub tokens_written : 6 + 4 * length terminals ≤ room → Written (6 + 4 * length terminals) ≡ token_answer terminals columns room
-        tokens_written h = rw (le-leb (6 + 4 * length terminals) room h) at (columns_next low)
+        pub tokens_written : 6 + 4 * length terminals ≤ room → Ok (6 + 4 * length terminals) ≡ token_answer terminals columns room
+        tokens_written h = rw (le-leb (6 + 4 * length terminals) room h) at (tokens_fitted refl)
 
 -- the packers' answers, read backwards
-chosen : (b : Bool) (answer refusal : Packed) (n : ℕ) → (refusal ≡ Written n → ⊥) → cond b answer refusal ≡ Written n → (b ≡ true) × (answer ≡ Written n)
+chosen : (b : Bool) (answer refusal : Packed) (n : ℕ) → (refusal ≡ Ok n → ⊥) → cond b answer refusal ≡ Ok n → (b ≡ true) × (answer ≡ Ok n)
 chosen true answer refusal n h e = (refl, e)
 chosen false answer refusal n h e = absurd (h e)
 
-entries_refuse : (n : ℕ) → Entries ≡ Written n → ⊥
+entries_refuse : (n : ℕ) → Err Entries ≡ Ok n → ⊥
 entries_refuse n e = let z : ◌≡◌ {A = ℕ} 0 1 = cc in omega arith
 
-into_room_lem : (needed room n : ℕ) → into_room needed room ≡ Written n → (n ≡ needed) × (n ≤ room)
+into_room_lem : (needed room n : ℕ) → into_room needed room ≡ Ok n → (n ≡ needed) × (n ≤ room)
 into_room_lem needed room n e =
-    let h = chosen (leb needed room) (Written needed) (Room needed) n (λ f. let z : ◌≡◌ {A = ℕ} 0 1 = cc in omega arith) e in
+    let h = chosen (leb needed room) (Ok needed) (Err (Room needed)) n (λ f. let z : ◌≡◌ {A = ℕ} 0 1 = cc in omega arith) e in
     let same : n ≡ needed = cc in
     (same, omega (arith, leb-true needed room h.0))
 
-past_columns_lem : (r : Checked) (answer : Packed) (n : ℕ) → past_columns r answer ≡ Written n → (Good ≡ r) × (answer ≡ Written n)
-past_columns_lem Good answer n e = (refl, e)
-past_columns_lem (Fault k) answer n e = absurd (let z : ◌≡◌ {A = ℕ} 0 1 = cc in omega arith)
+past_columns_lem : (r : Checked) (answer : Packed) (n : ℕ) → past_columns r answer ≡ Ok n → (Ok tt ≡ r) × (answer ≡ Ok n)
+past_columns_lem (Ok good) answer n e = (refl, e)
+past_columns_lem (Err fault) answer n e = absurd (let z : ◌≡◌ {A = ℕ} 0 1 = cc in omega arith)
 
 -- what is known of lists that were packed as n bytes
 pub record TreeFits (productions : List ℕ) (room n : ℕ) : Type 0 where
@@ -256,11 +270,11 @@ pub record TreeFits (productions : List ℕ) (room n : ℕ) : Type 0 where
   pub bytes : n ≡ 6 + 2 * length productions
   pub fits : n ≤ room
 
-pub tree_fits : (productions : List ℕ) (room n : ℕ) → tree_answer productions room ≡ Written n → TreeFits productions room n
+pub tree_fits : (productions : List ℕ) (room n : ℕ) → tree_answer productions room ≡ Ok n → TreeFits productions room n
 unfolding tree_answer
 tree_fits productions room n e =
     let count = length productions in
-    let h = chosen (leb 1 count && leb count max_nodes) (into_room (6 + 2 * count) room) Entries n (entries_refuse n) e in
+    let h = chosen (leb 1 count && leb count max_nodes) (into_room (6 + 2 * count) room) (Err Entries) n (entries_refuse n) e in
     let counts = both_true (leb 1 count) (leb count max_nodes) h.0 in
     let sizes = into_room_lem (6 + 2 * count) room n h.1 in
     record { some = leb-true 1 count counts.0; few = leb-true count max_nodes counts.1; bytes = sizes.0; fits = sizes.1 }
@@ -268,15 +282,15 @@ tree_fits productions room n e =
 pub record TokensFit (terminals columns : List ℕ) (room n : ℕ) : Type 0 where
   pub same : length terminals ≡ length columns
   pub few : length terminals ≤ max_tokens
-  pub low : Good ≡ first_fault (column_fields columns)
+  pub low : Ok tt ≡ first_fault (column_fields columns)
   pub bytes : n ≡ 6 + 4 * length terminals
   pub fits : n ≤ room
 
-pub tokens_fit : (terminals columns : List ℕ) (room n : ℕ) → token_answer terminals columns room ≡ Written n → TokensFit terminals columns room n
+pub tokens_fit : (terminals columns : List ℕ) (room n : ℕ) → token_answer terminals columns room ≡ Ok n → TokensFit terminals columns room n
 unfolding token_answer
 tokens_fit terminals columns room n e =
     let count = length terminals in
-    let h = chosen (eqb count (length columns) && leb count max_tokens) (past_columns (first_fault (column_fields columns)) (into_room (6 + 4 * count) room)) Entries n (entries_refuse n) e in
+    let h = chosen (eqb count (length columns) && leb count max_tokens) (past_columns (first_fault (column_fields columns)) (into_room (6 + 4 * count) room)) (Err Entries) n (entries_refuse n) e in
     let counts = both_true (eqb count (length columns)) (leb count max_tokens) h.0 in
     let past = past_columns_lem (first_fault (column_fields columns)) (into_room (6 + 4 * count) room) n h.1 in
     let sizes = into_room_lem (6 + 4 * count) room n past.1 in

@@ -15,9 +15,8 @@ use Rattle.tree_image.specs.TreeImage.{node_count, node_at, nodes_of, tree_field
 use Rattle.tree_image.specs.TreeImage as tree
 use Rattle.token_image.specs.TokenImage.{token_count, token_at, tokens_of, token_fields}
 use Rattle.token_image.specs.TokenImage as token
-use Rattle.fields.specs.declared.Checked.TheVariants.{Good}
-use Rattle.packers.specs.declared.Packed.{Packed}
-use Rattle.packers.specs.declared.Packed.TheVariants.{Written}
+use Rattle.std.specs.Prelude.{Ok}
+use Rattle.packers.specs.Answers.{Packed}
 use Rattle.fields.proofs.Formed.{formed_append, formed_parts, formed_each, each_formed}
 use Rattle.fields.proofs.Promised.{good_well_formed, well_formed_good}
 use Rattle.fields.proofs.Lists.{length_list, get_d_list}
@@ -50,7 +49,7 @@ module _ (productions : List ℕ) where
   unfolding nodes_of
   nodes_back = rw (tree_field 0) (list_same (node_at (tree_image productions)) (λ n. get_or productions n 0) (length productions) node_field ∙ list_get_d productions)
 
-module _ (productions out : List ℕ) (r : Packed) (after : List ℕ) (n : ℕ) (packed : TreePacked productions out r after) (said : r ≡ Written n) where
+module _ (productions out : List ℕ) (r : Packed) (after : List ℕ) (n : ℕ) (packed : TreePacked productions out r after) (said : r ≡ Ok n) where
   tree_known : TreeFits productions (length out) n
   tree_known = tree_fits productions (length out) n (sym packed.answer ∙ said)
 
@@ -99,12 +98,12 @@ module _ (P : ℕ) (image : List ℕ) (bytes : Bytes image) (formed : WellFormed
 
   -- packing the nodes of a well-formed tree image into an output that has room writes that image
   pub tree_packs : (out : List ℕ) (r : Packed) (after : List ℕ) → length image ≤ length out → TreePacked (nodes_of image) out r after →
-      (r ≡ Written (length image)) × (after ≡ image ++ drop (length image) out)
+      (r ≡ Ok (length image)) × (after ≡ image ++ drop (length image) out)
   tree_packs out r after room packed =
       let header = tree_header_lem in
       let count = count_nodes in
       let size : 6 + 2 * length (nodes_of image) ≡ length image = omega arith in
-      let said : r ≡ Written (length image) = packed.answer ∙ sym (tree_written (nodes_of image) (length out) (omega arith) (omega arith) (omega arith)) ∙ ap Written size in
+      let said : r ≡ Ok (length image) = packed.answer ∙ sym (tree_written (nodes_of image) (length out) (omega arith) (omega arith) (omega arith)) ∙ ap Ok size in
       (said, rw (packed.output, said, tree_is_packed))
 
 -- packing a tree has one outcome
@@ -158,7 +157,7 @@ module _ (terminals columns : List ℕ) (same : length terminals ≡ length colu
     rw (columns_are, token_field 0, same) (list_same _ (λ k. get_or columns k 0) (length columns) column_back ∙ list_get_d columns),
   )
 
-module _ (terminals columns out : List ℕ) (r : Packed) (after : List ℕ) (n : ℕ) (packed : TokensPacked terminals columns out r after) (said : r ≡ Written n) where
+module _ (terminals columns out : List ℕ) (r : Packed) (after : List ℕ) (n : ℕ) (packed : TokensPacked terminals columns out r after) (said : r ≡ Ok n) where
   tokens_known : TokensFit terminals columns (length out) n
   tokens_known = tokens_fit terminals columns (length out) n (sym packed.answer ∙ said)
 
@@ -204,7 +203,7 @@ module _ (T : ℕ) (image : List ℕ) (bytes : Bytes image) (formed : WellFormed
   unfolding tokens_of
   count_tokens = length_list 0 (token_count image) (token_at image)
 
-  columns_low : Good ≡ first_fault (column_fields (map column_of (tokens_of image)))
+  columns_low : Ok tt ≡ first_fault (column_fields (map column_of (tokens_of image)))
   unfolding token_fields token.records_fields token.record_fields column_fields WellFormed
   columns_low =
       let records = (formed_parts (token.header_fields image) (token.records_fields T image) formed).1 in
@@ -230,7 +229,7 @@ module _ (T : ℕ) (image : List ℕ) (bytes : Bytes image) (formed : WellFormed
   -- packing the tokens of a well-formed token image into an output that has room writes that image
   pub tokens_pack : (out : List ℕ) (r : Packed) (after : List ℕ) → length image ≤ length out →
       TokensPacked (map terminal_of (tokens_of image)) (map column_of (tokens_of image)) out r after →
-      (r ≡ Written (length image)) × (after ≡ image ++ drop (length image) out)
+      (r ≡ Ok (length image)) × (after ≡ image ++ drop (length image) out)
   tokens_pack out r after room packed =
       let header = tokens_header in
       let count = count_tokens in
@@ -239,7 +238,7 @@ module _ (T : ℕ) (image : List ℕ) (bytes : Bytes image) (formed : WellFormed
       let many = length-map (tokens_of image) terminal_of in
       let same = length-map (tokens_of image) column_of in
       let size : 6 + 4 * length terminals ≡ length image = omega arith in
-      let said : r ≡ Written (length image) = packed.answer ∙ sym (tokens_written terminals columns (length out) (omega arith) (omega arith) columns_low (omega arith)) ∙ ap Written size in
+      let said : r ≡ Ok (length image) = packed.answer ∙ sym (tokens_written terminals columns (length out) (omega arith) (omega arith) columns_low (omega arith)) ∙ ap Ok size in
       (said, rw (packed.output, said, tokens_are_packed))
 
 -- packing tokens has one outcome

@@ -2,11 +2,11 @@
 use Rattle.std.specs.Prelude.{◌≡◌, ◌&&◌, cond, List, [], ◌∷◌, ◌++◌, ℕ}
 use Rattle.std.specs.Prelude.{◌+◌, ◌*◌, ◌%◌, ◌/◌, leb, eqb, length, get_or, drop}
 use Rattle.rules.specs.Limits.{max_nodes, max_tokens, column_allowed}
-use Rattle.fields.specs.Fields.{Field, field, each, first_fault}
-use Rattle.fields.specs.declared.Checked.{Checked}
-use Rattle.fields.specs.declared.Checked.TheVariants.{Good, Fault}
-use Rattle.packers.specs.declared.Packed.{Packed}
-use Rattle.packers.specs.declared.Packed.TheVariants.{Written, Entries, Column, Room}
+use Rattle.std.specs.Prelude.{Result, Ok, Err}
+use Rattle.fields.specs.Fields.{Field, field, each, Checked, first_fault}
+use Rattle.packers.specs.declared.Refusal.{Refusal}
+use Rattle.packers.specs.declared.Refusal.TheVariants.{Entries, Column, Room}
+use Rattle.packers.specs.Answers.{Packed}
 
 -- "16 bits, low byte first": the bytes of fields, one after another
 unfoldable pub bytes_of : List ℕ → List ℕ
@@ -30,36 +30,39 @@ token_image terminals columns = bytes_of (length terminals ∷ 6 ∷ (6 + 4 * le
 
 -- "4 (output too short, place the bytes needed)"
 abbrev pub into_room : ℕ → ℕ → Packed
-into_room needed room = cond (leb needed room) (Written needed) (Room needed)
+into_room needed room = cond (leb needed room) (Ok needed) (Err (Room needed))
 
 -- "13, then 14, then 4": 13 is over 4,096 entries or an empty tree list
 unfoldable pub tree_answer : List ℕ → ℕ → Packed
 tree_answer productions room =
     cond (leb 1 (length productions) && leb (length productions) max_nodes)
     (into_room (6 + 2 * length productions) room)
-    Entries
+    (Err Entries)
 
 -- 14 is "a column above 4,095" but for no column, its place the "index of the first such"
 unfoldable pub column_fields : List ℕ → List Field
 column_fields columns = each (length columns) (λ k. field k (column_allowed (get_or columns k 0)) ∷ [])
 
 abbrev pub past_columns : Checked → Packed → Packed
-past_columns Good answer = answer
-past_columns (Fault k) answer = Column k
+past_columns (Ok good) answer = answer
+past_columns (Err fault) answer = Err (Column fault.byte)
+
+-- what is found of the columns alone
+abbrev pub columns_refusal : Checked → Result (Unit {0}) Refusal
+columns_refusal (Ok good) = Ok tt
+columns_refusal (Err fault) = Err (Column fault.byte)
 
 -- 13 is over 4,096 entries or two lists of unequal length
 unfoldable pub token_answer : List ℕ → List ℕ → ℕ → Packed
 token_answer terminals columns room =
     cond (eqb (length terminals) (length columns) && leb (length terminals) max_tokens)
     (past_columns (first_fault (column_fields columns)) (into_room (6 + 4 * length terminals) room))
-    Entries
+    (Err Entries)
 
 -- "A refused packer writes nothing"; "on success bytes past the length are unchanged"
 abbrev pub written : Packed → List ℕ → List ℕ → List ℕ
-written (Written n) image out = image ++ drop n out
-written Entries image out = out
-written (Column k) image out = out
-written (Room n) image out = out
+written (Ok n) image out = image ++ drop n out
+written (Err refusal) image out = out
 
 -- what a packer gives back, and what it leaves in the output
 pub record TreePacked (productions out : List ℕ) (r : Packed) (after : List ℕ) : Type 0 where

@@ -2,14 +2,13 @@
 #![tactic(auto)]
 
 ghost use Rattle.std.specs.Prelude.{◌≡◌, [], ◌∷◌, ◌++◌, ◌+◌, ◌*◌, ◌%◌, ◌/◌, ◌≤◌, ◌<◌, length, set, drop};
-ghost use Rattle.packers.specs.Answers.{packed_number, packed_place, packed_length};
-ghost use Rattle.packers.specs.Packing.{bytes_of};
+ghost use Rattle.packers.specs.Answers.{refusal_number, refusal_place};
+ghost use Rattle.packers.specs.Packing.{bytes_of, into_room};
 
-// What a packer answers.
-#[derive(Clone, Copy)]
-pub enum Packed {
-    // The image stands in the first bytes of the output, as many as are said.
-    Written(u16),
+// Why a packer writes nothing. Where it writes, it answers the length of the image, which stands in the first bytes of the
+// output.
+#[derive(Clone, Copy, Debug, PartialEq, Eq)]
+pub enum Refusal {
     // Too many entries, an empty tree list, or two lists of unequal length.
     Entries,
     // A column above the greatest: the index of the first such.
@@ -18,42 +17,39 @@ pub enum Packed {
     Room(u32),
 }
 
-impl Packed {
-    // The answer's number.
+impl Refusal {
+    // The refusal's number.
     pub fn number(self) -> u8
-        ensures { result ≡ packed_number self }
+        ensures { result ≡ refusal_number self }
     {
         match self {
-            Packed::Written(_) => 0,
-            Packed::Entries => 13,
-            Packed::Column(_) => 14,
-            Packed::Room(_) => 4,
+            Refusal::Entries => 13,
+            Refusal::Column(_) => 14,
+            Refusal::Room(_) => 4,
         }
     }
 
-    // The answer's place.
+    // The refusal's place.
     pub fn place(self) -> u32
-        ensures { result ≡ packed_place self }
+        ensures { result ≡ refusal_place self }
     {
         match self {
-            Packed::Written(_) => 0,
-            Packed::Entries => 0,
-            Packed::Column(k) => k,
-            Packed::Room(needed) => needed,
+            Refusal::Entries => 0,
+            Refusal::Column(k) => k,
+            Refusal::Room(needed) => needed,
         }
     }
+}
 
-    // The length of the image that was written.
-    pub fn length(self) -> u16
-        ensures { result ≡ packed_length self }
-    {
-        match self {
-            Packed::Written(length) => length,
-            Packed::Entries => 0,
-            Packed::Column(_) => 0,
-            Packed::Room(_) => 0,
-        }
+// The answer for an image of so many bytes in an output of so many.
+pub fn into_room(needed: usize, room: usize) -> Result<u16, Refusal>
+    requires { needed < 65536 }
+    ensures { result ≡ into_room needed room }
+{
+    if room < needed {
+        return Err(Refusal::Room(needed as u32));
     }
+    Ok(needed as u16)
 }
 
 // Field i of the output, low byte first.
@@ -61,9 +57,9 @@ pub fn put(out: &mut [u8], i: usize, value: u16)
     requires { (2 * i + 1 < length out.old) × (i < 65536) }
     ensures { out.new ≡ set (set out.old (2 * i) (value % 256)) (2 * i + 1) (value / 256) }
 {
-    let at = 2 * i;
-    out[at] = (value % 256) as u8;
-    out[at + 1] = (value / 256) as u8;
+    let [low, high] = value.to_le_bytes();
+    out[2 * i] = low;
+    out[2 * i + 1] = high;
 }
 
 // The header of a tree image or a token image: count, offset, total length.

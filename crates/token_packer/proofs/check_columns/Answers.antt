@@ -2,7 +2,7 @@
 use Rattle.std.proofs.Common.{◌∙◌, length, refl, sym, ap, arith}
 use native.Mathlib.Nat.{sub-zero}
 use Rattle.fields.specs.Fields.{first_fault}
-use Rattle.packers.specs.Packing.{column_fields}
+use Rattle.packers.specs.Packing.{column_fields, columns_refusal}
 use Rattle.fields.proofs.Searching.{pass, fail, done, each_first, each_none}
 use Rattle.token_packer.proofs.check_columns.Invariants.{fields}
 use Rattle.token_packer.proofs.check_columns.Goals as goal
@@ -14,8 +14,9 @@ loop-k-init c = rw sub-zero
 pub returns-then-not-column_allowed : goal.returns-then-not-column_allowed
 returns-then-not-column_allowed c =
     let columns = c.args.columns.now in
-    fail _ _ (sym c.column_allowed.ensures ∙ c.if-not-column_allowed.true) refl
-    ∙ sym (c.loop-k.invariant ∙ ap first_fault (each_first (fields columns) c.loop-k.k (length columns) (omega arith)))
+    ap columns_refusal
+    (fail _ _ (sym c.column_allowed.ensures ∙ c.if-not-column_allowed.true) refl
+    ∙ sym (c.loop-k.invariant ∙ ap first_fault (each_first (fields columns) c.loop-k.k (length columns) (omega arith))))
 
 pub loop-k-preserved : goal.loop-k-preserved
 loop-k-preserved c =
@@ -27,4 +28,4 @@ loop-k-preserved c =
 pub returns : goal.returns
 returns c =
     let columns = c.args.columns.now in
-    done ∙ sym (c.loop-k.invariant ∙ ap first_fault (each_none (fields columns) c.loop-k.k (length columns) (omega arith)))
+    ap columns_refusal (done ∙ sym (c.loop-k.invariant ∙ ap first_fault (each_none (fields columns) c.loop-k.k (length columns) (omega arith))))

@@ -1,6 +1,6 @@
 -- Each test of the code decides one of the answer's tests.
-use Rattle.std.proofs.Common.{arith}
-use Rattle.packers.proofs.Packing.{tokens_unequal, tokens_many, tokens_column, tokens_room, tokens_written}
+use Rattle.std.proofs.Common.{◌∙◌, arith}
+use Rattle.packers.proofs.Packing.{handed, past_good, tokens_unequal, tokens_many, tokens_column, tokens_fitted}
 use Rattle.token_packer.proofs.token_answer.Goals as goal
 
 pub returns-then-count-columns : goal.returns-then-count-columns
@@ -9,11 +9,10 @@ returns-then-count-columns c = tokens_unequal _ _ _ c.if-count-columns.true
 pub returns-then-count : goal.returns-then-count
 returns-then-count c = tokens_many _ _ _ (omega arith) (omega arith)
 
-pub returns-in-Fault : goal.returns-in-Fault
-returns-in-Fault c = tokens_column _ _ _ (omega arith) (omega arith) c.in-Fault.ensures
-
-pub returns-then-room-needed : goal.returns-then-room-needed
-returns-then-room-needed c = tokens_room _ _ _ (omega arith) (omega arith) c.in_default.ensures (omega arith)
+pub returns-in_err-check_columns : goal.returns-in_err-check_columns
+returns-in_err-check_columns c =
+    handed c.from_residual.ensures
+    ∙ tokens_column _ _ _ (omega arith) (omega arith) c.in_err-check_columns.ensures
 
 pub returns : goal.returns
-returns c = tokens_written _ _ _ (omega arith) (omega arith) c.in_default.ensures (omega arith)
+returns c = c.into_room.ensures ∙ tokens_fitted _ _ _ (omega arith) (omega arith) (past_good _ c.in_ok-check_columns.ensures) (omega arith)
