@@ -1,10 +1,6 @@
 -- What the contract of `derive` allows: one outcome, which is `Ok tt` exactly if the nodes of the tree image derive
 -- the tokens of the token image within the limit.
-use mathlib.Core.Path.{◌≡◌, refl, sym, ap, ◌∙◌}
-use mathlib.Core.Bool.{cond}
-use Prim.Native.Nat.{ℕ}
-use lib.Dec.{eqb}
-use Rattle.std.specs.Prelude.{Ok, Err}
+use Rattle.std.proofs.Common.{◌≡◌, refl, sym, ap, ◌∙◌, cond, ℕ, eqb, Ok, Err}
 use Rattle.fields.specs.Images.{Images}
 use Rattle.rules.specs.Limits.{max_depth}
 use Rattle.rules.specs.Derivation.{DerivesWithin}

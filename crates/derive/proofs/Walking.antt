@@ -1,12 +1,6 @@
 -- Laws of the walk over the images, one for each way that a token, a node or a row ends.
-use mathlib.Core.Path.{◌≡◌, refl, sym, ap, ◌∙◌}
-use mathlib.Core.Bool.{Bool, true, false, cond}
-use mathlib.Core.List.{List, ◌∷◌}
-use Prim.Native.Nat.{ℕ, zero, suc, ◌+◌, ◌-◌, ◌<◌, ◌≤◌}
-use native.Mathlib.Omega.{arith}
-use native.Mathlib.Numerals.{add-one}
-use lib.Dec.{ltb}
-use Rattle.std.specs.Prelude.{Result, Err, IsErr, IsErrAnd}
+use Rattle.std.proofs.Common.{◌≡◌, refl, sym, ap, ◌∙◌, Bool, true, false, cond, List, ◌∷◌, ℕ, zero, suc, ◌+◌, ◌-◌, ◌<◌, ◌≤◌, ltb, arith, add-one}
+use Rattle.std.proofs.Common.{Result, Err, IsErr, IsErrAnd}
 use Rattle.std.specs.declared.ops.Range.{Range}
 use Rattle.std.proofs.lemmas.Result.{err_from_is_err_and}
 use Rattle.rules.specs.Grammar.{Symbol, Production, Token}
@@ -155,12 +149,13 @@ module _ (tree tokens : List ℕ) (n k : ℕ) where
       let no-token-left : ltb k (token_count tokens) ≡ false = omega tests in
       rw (length_nodes, no-node-left, length_tokens, no-token-left)
 
--- the walk from the root on: all levels are left, and the start nonterminal is due
-module _ (G : ℕ → Production) (ns : List ℕ) (ts : List Token) {levels s start : ℕ} (all : levels ≡ max_depth) (due : s ≡ start) where
-  pub walk_refused : {a : Answer} → refused a ≡ node_due G ns ts levels s 0 0 → a ≡ walk G ns ts start
-  unfolding walk walk_done
-  walk_refused walked = rw (← all, ← due, ← walked)
-
-  pub walk_done_lem : {a : Answer} {w : Walked} → w ≡ node_due G ns ts levels s 0 0 → a ≡ walk_done ns ts w → a ≡ walk G ns ts start
+-- the walk from the root on, which ends as w: all levels are left, and the start nonterminal is due
+module _ (G : ℕ → Production) (ns : List ℕ) (ts : List Token) {levels s start : ℕ} {w : Walked} (walked : w ≡ node_due G ns ts levels s 0 0) (all : levels ≡ max_depth) (due : s ≡ start) where
+  pub walk_done_lem : {a : Answer} → a ≡ walk_done ns ts w → a ≡ walk G ns ts start
   unfolding walk
-  walk_done_lem walked d = rw (← all, ← due, ← walked) d
+  walk_done_lem d = rw (← all, ← due, ← walked) d
+
+-- where it is refused, nothing else is told
+pub refused_done : (ns : List ℕ) (ts : List Token) {a : Answer} → a ≡ walk_done ns ts (refused a)
+unfolding walk_done
+refused_done ns ts = refl

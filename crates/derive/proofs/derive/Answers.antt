@@ -2,14 +2,14 @@
 use Rattle.std.proofs.Common.{ap, refl, ◌∙◌, arith}
 use Rattle.grammar_image.proofs.Within.{header_within}
 use Rattle.derive.specs.Answers.{derivation_answer}
-use Rattle.derive.proofs.Walking.{handed, walk_refused, walk_done_lem}
+use Rattle.derive.proofs.Walking.{handed, refused_done, walk_done_lem}
 use Rattle.derive.proofs.derive.Goals as goal
 
 pub counts_at-counts-requires : goal.counts_at-counts-requires
 counts_at-counts-requires c = header_within c.args.formed.now.nodes.grammar.now c.args.formed.now.formed.nodes_formed.grammar_formed
 
 pub returns-in_err-used : goal.returns-in_err-used
-returns-in_err-used c = ap derivation_answer (handed c.from_residual.ensures) ∙ walk_refused _ _ _ refl (omega arith) c.in_err-used.ensures
+returns-in_err-used c = ap derivation_answer (handed c.from_residual.ensures) ∙ walk_done_lem _ _ _ c.in_err-used.ensures refl (omega arith) (refused_done _ _)
 
 pub returns : goal.returns
-returns c = walk_done_lem _ _ _ refl (omega arith) c.in_ok-used.ensures c.remaining.ensures
+returns c = walk_done_lem _ _ _ c.in_ok-used.ensures refl (omega arith) c.remaining.ensures
