@@ -1,9 +1,6 @@
--- What the contract of `derive` allows: one outcome, which is `Derived` exactly if the nodes of the tree image derive
+-- What the contract of `derive` allows: one outcome, which is `Ok tt` exactly if the nodes of the tree image derive
 -- the tokens of the token image within the limit.
-use mathlib.Core.Path.{◌≡◌, refl, sym, ap, ◌∙◌}
-use mathlib.Core.Bool.{cond}
-use Prim.Native.Nat.{ℕ}
-use lib.Dec.{eqb}
+use Rattle.std.proofs.Common.{◌≡◌, refl, sym, ap, ◌∙◌, cond, ℕ, eqb, Ok, Err}
 use Rattle.fields.specs.Images.{Images}
 use Rattle.rules.specs.Limits.{max_depth}
 use Rattle.rules.specs.Derivation.{DerivesWithin}
@@ -14,32 +11,30 @@ use Rattle.token_image.specs.TokenImage.{tokens_of}
 use Rattle.tree_image.specs.TreeImage.{nodes_of}
 use Rattle.derive.specs.declared.Refusal.TheVariants.{WrongNode, NodesEnd, WrongToken, TokensEnd, TooDeep}
 use Rattle.derive.specs.declared.Refusal.TheVariants.{NodesRemain, TokensRemain}
-use Rattle.derive.specs.declared.Derivation.{Derivation}
-use Rattle.derive.specs.declared.Derivation.TheVariants.{Derived, Refused}
-use Rattle.derive.specs.Answers.{derivation_answer}
+use Rattle.derive.specs.Answers.{Derivation, derivation_answer}
 use Rattle.derive.specs.Images.{walk_in}
 
 -- the outcome that has a number and a place
 outcome : ℕ → ℕ → Derivation
 outcome number place =
-    cond (eqb number 0) Derived
-    (cond (eqb number 5) (Refused (WrongNode place))
-    (cond (eqb number 6) (Refused (NodesEnd place))
-    (cond (eqb number 7) (Refused (WrongToken place))
-    (cond (eqb number 8) (Refused (TokensEnd place))
-    (cond (eqb number 9) (Refused (TooDeep place))
-    (cond (eqb number 10) (Refused (NodesRemain place)) (Refused (TokensRemain place))))))))
+    cond (eqb number 0) (Ok tt)
+    (cond (eqb number 5) (Err (WrongNode place))
+    (cond (eqb number 6) (Err (NodesEnd place))
+    (cond (eqb number 7) (Err (WrongToken place))
+    (cond (eqb number 8) (Err (TokensEnd place))
+    (cond (eqb number 9) (Err (TooDeep place))
+    (cond (eqb number 10) (Err (NodesRemain place)) (Err (TokensRemain place))))))))
 
 told : (r : Derivation) → outcome (derivation_answer r).number (derivation_answer r).place ≡ r
 unfolding outcome
-told Derived = refl
-told (Refused (WrongNode place)) = refl
-told (Refused (NodesEnd place)) = refl
-told (Refused (WrongToken place)) = refl
-told (Refused (TokensEnd place)) = refl
-told (Refused (TooDeep place)) = refl
-told (Refused (NodesRemain place)) = refl
-told (Refused (TokensRemain place)) = refl
+told (Ok derived) = refl
+told (Err (WrongNode place)) = refl
+told (Err (NodesEnd place)) = refl
+told (Err (WrongToken place)) = refl
+told (Err (TokensEnd place)) = refl
+told (Err (TooDeep place)) = refl
+told (Err (NodesRemain place)) = refl
+told (Err (TokensRemain place)) = refl
 
 -- two outcomes with the same number and place are equal
 same_answer : (r s : Derivation) → derivation_answer r ≡ derivation_answer s → r ≡ s
@@ -57,9 +52,9 @@ module _ (s : Images) where
       (tokens_of s.tokens)
 
   -- derived: some tree derives
-  pub derived_derives : derivation_answer Derived ≡ walk_in s → Derives
+  pub derived_derives : derivation_answer (Ok tt) ≡ walk_in s → Derives
   derived_derives e = derived _ _ _ _ (sym (ap (λ (a : Answer). a.number) e))
 
   -- and wherever some tree does, derived is the outcome
-  pub derives_derived : (r : Derivation) → derivation_answer r ≡ walk_in s → Derives → r ≡ Derived
-  derives_derived r e d = same_answer r Derived (e ∙ derives_answered _ _ _ _ d)
+  pub derives_derived : (r : Derivation) → derivation_answer r ≡ walk_in s → Derives → r ≡ Ok tt
+  derives_derived r e d = same_answer r (Ok tt) (e ∙ derives_answered _ _ _ _ d)

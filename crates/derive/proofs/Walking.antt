@@ -1,28 +1,27 @@
 -- Laws of the walk over the images, one for each way that a token, a node or a row ends.
-use mathlib.Core.Path.{◌≡◌, refl, sym, ◌∙◌}
-use mathlib.Core.Bool.{true, false}
-use mathlib.Core.List.{List, ◌∷◌}
-use Prim.Native.Nat.{ℕ, zero, suc, ◌+◌, ◌-◌, ◌<◌, ◌≤◌}
-use native.Mathlib.Omega.{arith}
-use native.Mathlib.Numerals.{add-one}
-use lib.Dec.{eqb, ltb}
+use Rattle.std.proofs.Common.{◌≡◌, refl, sym, ap, ◌∙◌, Bool, true, false, cond, List, ◌∷◌, ℕ, zero, suc, ◌+◌, ◌-◌, ◌<◌, ◌≤◌, ltb, arith, add-one}
+use Rattle.std.proofs.Common.{Result, Err, IsErr, IsErrAnd}
+use Rattle.std.specs.declared.ops.Range.{Range}
+use Rattle.std.proofs.lemmas.Result.{err_from_is_err_and}
 use Rattle.rules.specs.Grammar.{Symbol, Production, Token}
 use Rattle.rules.specs.Walk.{Walked, used, refused, Answer, answer, and_then, no_token, token_due, node_met, symbol_due, row_due, node_due, walk_done, walk}
 use Rattle.rules.specs.Limits.{max_depth}
 use Rattle.fields.specs.Fields.{list_from}
 use Rattle.grammar_image.specs.GrammarImage.{left_of, symbol_at, production_at, ProductionIs, SymbolIs}
+use Rattle.grammar_image.specs.Kinds.{kind_of}
+use Rattle.grammar_image.specs.declared.Kind.TheVariants.{Terminal, Nonterminal}
 use Rattle.grammar_image.specs.declared.Production.{Production as ProductionRead}
 use Rattle.grammar_image.specs.declared.Symbol.{Symbol as SymbolRead}
 use Rattle.token_image.specs.TokenImage.{token_count, token_at, tokens_of}
 use Rattle.tree_image.specs.TreeImage.{node_count, node_at, nodes_of}
-use Rattle.derive.specs.declared.Refusal.{Refusal}
-use Rattle.derive.specs.declared.walk.Walked.{Walked as WalkedRead}
-use Rattle.derive.specs.declared.walk.Walked.TheVariants.{Used, Refused}
-use Rattle.derive.specs.Answers.{refusal_answer, walked_as}
 use Rattle.rules.proofs.Steps.{token_missing, token_other, token_meets, node_missing, node_other, node_meets}
 use Rattle.token_image.proofs.Lists.{length_tokens, token_of}
 use Rattle.tree_image.proofs.Lists.{length_nodes, node_of}
 use Rattle.fields.proofs.Searching.{tests}
+
+-- a refusal is handed on by `?` as it is
+pub handed : {A E : Type 0} {r : Result A E} {e : E} → IsErr r × IsErrAnd r (λ (f : E). f ≡ e) → r ≡ Err e
+handed {r} h = let p = err_from_is_err_and r h.1 in p.1 ∙ ap Err p.2
 
 -- the terminal a is due
 module _ (image : List ℕ) (a n k : ℕ) where
@@ -80,41 +79,46 @@ module _ (grammar tree : List ℕ) (A n : ℕ) where
       unfolding row_due list_from
       row_empty levels some h same none = row_walked levels some h same (rw none)
 
+-- what a test gives, by what stands at the symbol
+terminal_test : (b : Bool) → Terminal ≡ cond b Terminal Nonterminal → b ≡ true
+terminal_test true e = refl
+terminal_test false e = cc
+
+nonterminal_test : (b : Bool) → Nonterminal ≡ cond b Terminal Nonterminal → b ≡ false
+nonterminal_test true e = cc
+nonterminal_test false e = refl
+
 -- a symbol is due, which the reader gives as r
 module _ (ts : List Token) (below : ℕ → ℕ → ℕ → Walked) {image : List ℕ} {y : ℕ} {r : SymbolRead} (read : SymbolIs image y r) (n k : ℕ) {w : Walked} where
-  pub terminal_due : r.kind ≡ 0 → w ≡ token_due ts r.number n k → w ≡ symbol_due ts below (symbol_at image y) n k
+  pub terminal_due : Terminal ≡ kind_of r.kind → w ≡ token_due ts r.number n k → w ≡ symbol_due ts below (symbol_at image y) n k
   unfolding symbol_due
-  terminal_due zeroth e =
-      let terminal : eqb (symbol_at image y).kind 0 ≡ true = omega tests in
-      rw (terminal, ← read.number) e
+  terminal_due terminal e = rw (← read.kind, terminal_test _ terminal, ← read.number) e
 
-  pub nonterminal_due : (r.kind ≡ 0 → ⊥) → w ≡ below r.number n k → w ≡ symbol_due ts below (symbol_at image y) n k
+  pub nonterminal_due : Nonterminal ≡ kind_of r.kind → w ≡ below r.number n k → w ≡ symbol_due ts below (symbol_at image y) n k
   unfolding symbol_due
-  nonterminal_due other e =
-      let nonterminal : eqb (symbol_at image y).kind 0 ≡ false = omega tests in
-      rw (nonterminal, ← read.number) e
+  nonterminal_due nonterminal e = rw (← read.kind, nonterminal_test _ nonterminal, ← read.number) e
 
--- a row of which the symbols from entry y up to `end` are left
-module _ (ts : List Token) (below : ℕ → ℕ → ℕ → Walked) (f : ℕ → Symbol) (y end n k : ℕ) where
-  one_more : y < end → list_from y (end - y) f ≡ f y ∷ list_from (y + 1) (end - (y + 1)) f
-  unfolding list_from
-  one_more h =
-      let e : end - y ≡ suc (end - (y + 1)) = omega arith in
-      rw (e, add-one)
+-- a row of which the symbols of some entries are left
+module _ (ts : List Token) (below : ℕ → ℕ → ℕ → Walked) (f : ℕ → Symbol) (entries : Range ℕ) (n k : ℕ) where
+  -- y is the first of them, and `rest` are the others
+  module _ {y : ℕ} {rest : Range ℕ} (step : (rest.end ≡ entries.end) × ((0 < entries.end - entries.start) × (y ≡ entries.start) × (rest.start ≡ entries.start + 1))) where
+    one_more : list_from entries.start (entries.end - entries.start) f ≡ f y ∷ list_from rest.start (rest.end - rest.start) f
+    unfolding list_from
+    one_more =
+        let e : entries.end - entries.start ≡ suc (rest.end - rest.start) = omega (arith, step) in
+        rw (e, step.1.1, step.1.2, add-one)
 
-  pub row_refused : {a : Answer} → y < end → refused a ≡ symbol_due ts below (f y) n k → refused a ≡ row_due ts below (list_from y (end - y) f) n k
-  unfolding row_due and_then
-  row_refused h e = rw (one_more h, ← e)
+    pub row_refused : {a : Answer} → refused a ≡ symbol_due ts below (f y) n k → refused a ≡ row_due ts below (list_from entries.start (entries.end - entries.start) f) n k
+    unfolding row_due and_then
+    row_refused e = rw (one_more, ← e)
 
-  pub row_goes_on : {m j : ℕ} → y < end → used m j ≡ symbol_due ts below (f y) n k → row_due ts below (list_from (y + 1) (end - (y + 1)) f) m j ≡ row_due ts below (list_from y (end - y) f) n k
-  unfolding row_due and_then
-  row_goes_on h e = rw (one_more h, ← e)
+    pub row_goes_on : {m j : ℕ} → used m j ≡ symbol_due ts below (f y) n k → row_due ts below (list_from rest.start (rest.end - rest.start) f) m j ≡ row_due ts below (list_from entries.start (entries.end - entries.start) f) n k
+    unfolding row_due and_then
+    row_goes_on e = rw (one_more, ← e)
 
-  pub row_used : end ≤ y → used n k ≡ row_due ts below (list_from y (end - y) f) n k
+  pub row_used : entries.end - entries.start ≡ 0 → used n k ≡ row_due ts below (list_from entries.start (entries.end - entries.start) f) n k
   unfolding row_due list_from
-  row_used h =
-      let e : end - y ≡ 0 = omega arith in
-      rw e
+  row_used e = rw e
 
 -- all symbols of a row are left at its first entry
 pub row_begins : (ts : List Token) (below : ℕ → ℕ → ℕ → Walked) (f : ℕ → Symbol) (first count n k : ℕ) →
@@ -145,12 +149,13 @@ module _ (tree tokens : List ℕ) (n k : ℕ) where
       let no-token-left : ltb k (token_count tokens) ≡ false = omega tests in
       rw (length_nodes, no-node-left, length_tokens, no-token-left)
 
--- the walk from the root on, whose code ends as w: all levels are left, and the start nonterminal is due
-module _ (G : ℕ → Production) (ns : List ℕ) (ts : List Token) {levels s start : ℕ} {w : WalkedRead} (walked : walked_as w ≡ node_due G ns ts levels s 0 0) (all : levels ≡ max_depth) (due : s ≡ start) where
-  pub walk_refused : {refusal : Refusal} → w ≡ Refused refusal → refusal_answer refusal ≡ walk G ns ts start
-  unfolding walk walk_done
-  walk_refused e = rw (← all, ← due, ← walked, e)
-
-  pub walk_done_lem : {a : Answer} (n k : ℕ) → w ≡ Used n k → a ≡ walk_done ns ts (used n k) → a ≡ walk G ns ts start
+-- the walk from the root on, which ends as w: all levels are left, and the start nonterminal is due
+module _ (G : ℕ → Production) (ns : List ℕ) (ts : List Token) {levels s start : ℕ} {w : Walked} (walked : w ≡ node_due G ns ts levels s 0 0) (all : levels ≡ max_depth) (due : s ≡ start) where
+  pub walk_done_lem : {a : Answer} → a ≡ walk_done ns ts w → a ≡ walk G ns ts start
   unfolding walk
-  walk_done_lem n k e d = rw (← all, ← due, ← walked, e) d
+  walk_done_lem d = rw (← all, ← due, ← walked) d
+
+-- where it is refused, nothing else is told
+pub refused_done : (ns : List ℕ) (ts : List Token) {a : Answer} → a ≡ walk_done ns ts (refused a)
+unfolding walk_done
+refused_done ns ts = refl

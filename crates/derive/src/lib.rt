@@ -4,23 +4,21 @@
 
 mod walk;
 
-ghost use Rattle.std.specs.Prelude.{◌≡◌, ◌≤◌, length};
-ghost use Rattle.rules.specs.Walk.{walk_done, used};
-ghost use Rattle.fields.specs.Images.{images};
-ghost use Rattle.images.specs.Formed.{Formed};
+ghost use Rattle.std.specs.Prelude.{◌≡◌, Ok};
+ghost use Rattle.rules.specs.Walk.{walk_done};
+ghost use Rattle.images.specs.Held.{images_of};
 ghost use Rattle.token_image.specs.TokenImage.{tokens_of};
 ghost use Rattle.tree_image.specs.TreeImage.{nodes_of};
-ghost use Rattle.derive.specs.Answers.{refusal_answer, derivation_answer};
+ghost use Rattle.derive.specs.Answers.{refusal_answer, derivation_answer, walked_as};
 ghost use Rattle.derive.specs.Images.{walk_in};
 
-use crate::walk::{Walked, node};
+use crate::walk::{Used, node};
 use grammar_image::counts_at;
+use images::Formed;
 use rules::DEPTH;
-use token_image::token_count;
-use tree_image::node_count;
 
 // Why a tree does not derive, each with its place.
-#[derive(Clone, Copy)]
+#[derive(Clone, Copy, Debug, PartialEq, Eq)]
 pub enum Refusal {
     // The node whose left side is not the nonterminal due.
     WrongNode(u16),
@@ -36,15 +34,6 @@ pub enum Refusal {
     NodesRemain(u16),
     // The first token that is not used.
     TokensRemain(u16),
-}
-
-// What the derivation walk answers.
-#[derive(Clone, Copy)]
-pub enum Derivation {
-    // The tree derives the whole token list.
-    Derived,
-    // It does not, or it is too deep.
-    Refused(Refusal),
 }
 
 impl Refusal {
@@ -79,31 +68,30 @@ impl Refusal {
     }
 }
 
-// What is left once the walk is done.
-fn remaining(tokens: &[u8], tree: &[u8], n: u16, k: u16) -> Derivation
-    requires { (6 ≤ length tokens.now) × (6 ≤ length tree.now) }
+// Nothing may be left once the walk is done.
+fn remaining(formed: &Formed, used: Used) -> Result<(), Refusal>
     ensures { derivation_answer result
-        ≡ walk_done (nodes_of tree.now) (tokens_of tokens.now) (used n k) }
+        ≡ walk_done (nodes_of formed.now.nodes.tree.now) (tokens_of formed.now.tokens.now) (walked_as (Ok used)) }
 {
-    if n < node_count(tree) {
-        return Derivation::Refused(Refusal::NodesRemain(n));
+    if used.nodes < formed.nodes.node_count() {
+        return Err(Refusal::NodesRemain(used.nodes));
     }
-    if k < token_count(tokens) {
-        return Derivation::Refused(Refusal::TokensRemain(k));
+    if used.tokens < formed.token_count() {
+        return Err(Refusal::TokensRemain(used.tokens));
     }
-    Derivation::Derived
+    Ok(())
 }
 
 // Whether the nodes of the tree image derive the whole token list from the start nonterminal, by a
 // walk in preorder: derived, or the first refusal among 5 to 11 with its place.
-pub fn derive(grammar: &[u8], tokens: &[u8], tree: &[u8]) -> Derivation
-    requires { Formed (images grammar.now tokens.now tree.now) }
-    ensures { derivation_answer result
-        ≡ walk_in (images grammar.now tokens.now tree.now) }
+pub fn derive(formed: &Formed) -> Result<(), Refusal>
+    ensures { derivation_answer result ≡ walk_in (images_of formed.now) }
 {
-    let counts = counts_at(grammar);
-    match node(grammar, tokens, tree, DEPTH, counts.start, 0, 0) {
-        Walked::Refused(refusal) => Derivation::Refused(refusal),
-        Walked::Used(n, k) => remaining(tokens, tree, n, k),
-    }
+    let counts = counts_at(formed.nodes.grammar);
+    let root = Used {
+        nodes: 0,
+        tokens: 0,
+    };
+    let used = node(formed, DEPTH, counts.start, root)?;
+    remaining(formed, used)
 }

@@ -1,131 +1,86 @@
 // The walk in preorder: a node function and a row function that call each other.
-// Where n nodes and k tokens are used, node n and token k are next.
-ghost use Rattle.std.specs.Prelude.{◌≡◌, ◌+◌, ◌*◌, ◌≤◌, length};
+ghost use Rattle.std.specs.Prelude.{◌≡◌, ◌≤◌};
 ghost use Rattle.rules.specs.Walk.{token_due};
-ghost use Rattle.fields.specs.Fields.{list_from};
-ghost use Rattle.fields.specs.Images.{images};
-ghost use Rattle.grammar_image.specs.GrammarImage.{entry_count, symbol_at};
-ghost use Rattle.token_image.specs.TokenImage.{token_count, tokens_of};
-ghost use Rattle.images.specs.Formed.{Formed};
+ghost use Rattle.grammar_image.specs.GrammarImage.{entry_count};
+ghost use Rattle.token_image.specs.TokenImage.{tokens_of};
+ghost use Rattle.images.specs.Held.{images_of};
 ghost use Rattle.derive.specs.Answers.{walked_as};
-ghost use Rattle.derive.specs.Images.{node_due_in, row_due_in};
+ghost use Rattle.derive.specs.Images.{entries_due_in, node_due_in};
 
 use crate::Refusal;
-use grammar_image::symbol_at;
-use images::production_of;
-use token_image::{token_at, token_count};
-use tree_image::node_count;
+use grammar_image::Kind;
+use images::Formed;
+use std::ops::Range;
 
-// How the walk of a node or of a row ends.
+// So many nodes and tokens are used since the root: the node and the token of these numbers are next.
 #[derive(Clone, Copy)]
-pub enum Walked {
-    // So many nodes and tokens are used since the root.
-    Used(u16, u16),
-    // The walk ends here.
-    Refused(Refusal),
+pub struct Used {
+    pub nodes: u16,
+    pub tokens: u16,
 }
 
 // A token is due that carries the terminal.
-fn token(tokens: &[u8], terminal: u16, n: u16, k: u16) -> Walked
-    requires { 6 + 4 * token_count tokens.now ≤ length tokens.now }
-    ensures { walked_as result ≡ token_due (tokens_of tokens.now) terminal n k }
+fn token(formed: &Formed, terminal: u16, used: Used) -> Result<Used, Refusal>
+    ensures { walked_as result ≡ token_due (tokens_of formed.now.tokens.now) terminal used.nodes used.tokens }
 {
-    let count = token_count(tokens);
-    if k >= count {
-        return Walked::Refused(Refusal::TokensEnd(count));
+    let count = formed.token_count();
+    if used.tokens >= count {
+        return Err(Refusal::TokensEnd(count));
     }
-    let next = token_at(tokens, k);
-    if next.terminal != terminal {
-        return Walked::Refused(Refusal::WrongToken(k));
+    if formed.token_at(used.tokens).terminal != terminal {
+        return Err(Refusal::WrongToken(used.tokens));
     }
-    Walked::Used(n, k + 1)
+    Ok(Used {
+        tokens: used.tokens + 1,
+        ..used
+    })
 }
 
 // A node is due that has the nonterminal on its left, where so many levels are left.
 #[cycle(node_row)]
-pub fn node(
-    grammar: &[u8],
-    tokens: &[u8],
-    tree: &[u8],
-    levels: u16,
-    nonterminal: u16,
-    n: u16,
-    k: u16,
-) -> Walked
-    requires { Formed (images grammar.now tokens.now tree.now) }
-    ensures { walked_as result
-        ≡ node_due_in (images grammar.now tokens.now tree.now) levels nonterminal n k }
+pub fn node(formed: &Formed, levels: u16, nonterminal: u16, used: Used) -> Result<Used, Refusal>
+    ensures { walked_as result ≡ node_due_in (images_of formed.now) levels nonterminal used.nodes used.tokens }
 {
-    let count = node_count(tree);
+    let n = used.nodes;
+    let count = formed.nodes.node_count();
     if n >= count {
-        return Walked::Refused(Refusal::NodesEnd(count));
+        return Err(Refusal::NodesEnd(count));
     }
-    let production = production_of(grammar, tree, n);
+    let production = formed.nodes.production_of(n);
     if production.left != nonterminal {
-        return Walked::Refused(Refusal::WrongNode(n));
+        return Err(Refusal::WrongNode(n));
     }
     if levels == 0 {
-        return Walked::Refused(Refusal::TooDeep(n));
+        return Err(Refusal::TooDeep(n));
     }
+    let below = Used {
+        nodes: n + 1,
+        ..used
+    };
     if production.count == 0 {
-        return Walked::Used(n + 1, k);
+        return Ok(below);
     }
+    let first = production.first as u32;
     row(
-        grammar,
-        tokens,
-        tree,
+        formed,
         levels - 1,
-        production.first,
-        production.count,
-        n + 1,
-        k,
+        first..first + production.count as u32,
+        below,
     )
 }
 
-// A row of symbols is due, by the number of its first entry and a count.
+// A row of symbols is due, by the numbers of its entries.
 #[cycle(node_row)]
-fn row(
-    grammar: &[u8],
-    tokens: &[u8],
-    tree: &[u8],
-    levels: u16,
-    first: u16,
-    count: u16,
-    n: u16,
-    k: u16,
-) -> Walked
-    requires formed { Formed (images grammar.now tokens.now tree.now) }
-    requires row { first + count ≤ entry_count grammar.now }
-    ensures { walked_as result
-        ≡ row_due_in (images grammar.now tokens.now tree.now) levels
-        (list_from first count (symbol_at grammar.now)) n k }
+fn row(formed: &Formed, levels: u16, entries: Range<u32>, mut used: Used) -> Result<Used, Refusal>
+    requires { entries.end ≤ entry_count formed.now.nodes.grammar.now }
+    ensures { walked_as result ≡ entries_due_in (images_of formed.now) levels entries used.nodes used.tokens }
 {
-    let start = first as u32;
-    let end = start + (count as u32);
-    let mut next_node = n;
-    let mut next_token = k;
-    for y in start..end {
-        let symbol = symbol_at(grammar, y);
-        let walked = if symbol.kind == 0 {
-            token(tokens, symbol.number, next_node, next_token)
-        } else {
-            node(
-                grammar,
-                tokens,
-                tree,
-                levels,
-                symbol.number,
-                next_node,
-                next_token,
-            )
+    for y in entries {
+        let symbol = formed.nodes.symbol_at(y);
+        used = match symbol.kind() {
+            Kind::Terminal => token(formed, symbol.number, used)?,
+            Kind::Nonterminal => node(formed, levels, symbol.number, used)?,
         };
-        match walked {
-            Walked::Used(m, j) => {
-                next_node = m;
-                next_token = j;
-            }
-            Walked::Refused(refusal) => return Walked::Refused(refusal),
-        }
     }
-    Walked::Used(next_node, next_token)
+    Ok(used)
 }
