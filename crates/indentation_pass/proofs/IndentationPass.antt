@@ -1,9 +1,7 @@
 -- The steps of the indentation pass, each a law: a node's number is written before those of its row, and those of a child before the rest of the row.
-use mathlib.Core.Path.{◌≡◌, refl, sym}
-use mathlib.Core.List.{List, [], ◌∷◌, ◌++◌, append_assoc}
-use Prim.Native.Nat.{ℕ, ◌+◌, ◌*◌, ◌<◌, ◌≤◌, min}
-use native.Mathlib.Omega.{arith}
-use lib.ListN.{length, get_or, set, length-append}
+use Rattle.std.proofs.Common.{◌≡◌, refl, sym, ◌∙◌, ℕ, ◌+◌, ◌*◌, ◌<◌, ◌≤◌, min, List, [], ◌∷◌, ◌++◌, length, get_or, slice_set, length-append, arith, Some, append_assoc}
+use Rattle.std.specs.declared.ops.Range.{Range}
+use Rattle.std.proofs.iter.Yields.{nat_range_steps}
 use Rattle.rules.specs.Grammar.{Symbol, Token}
 use Rattle.rules.specs.Tree.{Tree, Row}
 use Rattle.rules.specs.Derivation.{nodes, row_nodes, tokens}
@@ -14,6 +12,8 @@ use Rattle.rules.specs.declared.relation.Set.{Set}
 use Rattle.rules.proofs.Lists.{front_met}
 use Rattle.rules.proofs.Shapes.{length_sets}
 use Rattle.grammar_image.specs.GrammarImage.{left_of, first_of, count_of, symbol_at, production_at, ProductionIs, SymbolIs}
+use Rattle.grammar_image.specs.Kinds.{kind_of}
+use Rattle.grammar_image.specs.declared.Kind.TheVariants.{Terminal, Nonterminal}
 use Rattle.grammar_image.specs.declared.Production.{Production as ProductionRead}
 use Rattle.grammar_image.specs.declared.Symbol.{Symbol as SymbolRead}
 use Rattle.tree_image.specs.TreeImage.{node_count, node_at, nodes_of}
@@ -21,9 +21,13 @@ use Rattle.tree_image.proofs.Lists.{length_nodes}
 use Rattle.layout.specs.Standing.{symbols, TreeListed, RowListed, SomeTreeListed, SomeRowListed}
 use Rattle.indentation_pass.specs.Passes.{AllUpTo, NodeGiven, RowGiven}
 use Rattle.indentation_pass.proofs.LeastNumbers.{up_to_append, length_least, root_up_to, set_read}
-use Rattle.layout.proofs.Rows.{row_symbols, row_more, row_none, token_in, child_in}
+use Rattle.layout.proofs.Rows.{row_symbols, row_more, row_none, terminal_is, nonterminal_is, token_in, child_in}
 use Rattle.layout.proofs.Standing.{Opened, opened, tree_opened, TokenFirst, token_first, ChildFirst, child_first, row_ended, node_within}
 use Rattle.layout.proofs.Written.{written_none, written_one, written_then}
+
+-- the symbols of some entries
+abbrev pub row_at : List ℕ → Range ℕ → List Symbol
+row_at grammar entries = symbols grammar entries.start entries.end
 
 module _ (grammar tree : List ℕ) where
   -- the symbols of a production's row
@@ -47,6 +51,14 @@ module _ (grammar tree : List ℕ) where
   abbrev pub RowDone : List Symbol → ℕ → ℕ → List ℕ → List ℕ → List ℕ → ℕ → Type 0
   RowDone ss n i sets old new next = (ts : List Token) (k : ℕ) (R : Row) → RowListed grammar tree ts ss n k R → RowGiven grammar R ss n i sets old new next
 
+  -- a row from node n on got as far as node `next`: the symbols that are left stand there, and what they give completes what the whole row gives
+  pub record RowReached (entries left : Range ℕ) (n next i : ℕ) (sets old now : List ℕ) : Type 0 where
+    pub end : left.end ≡ entries.end
+    pub nodes : n ≤ next
+    pub places : length now ≡ length old
+    pub stands : SomeRowListed grammar tree (row_at grammar left) next
+    pub completes : (final : List ℕ) (r : ℕ) → RowDone (row_at grammar left) next i sets now final r → RowDone (row_at grammar entries) n i sets old final r
+
   -- where a tree stands, its node is one of the tree image
   pub node_listed : {n : ℕ} → SomeTreeListed grammar tree n → n < node_count tree
   node_listed {n} s = omega (arith, length_nodes tree, node_within _ _ _ n s.k s.there s.stands)
@@ -60,7 +72,7 @@ module _ (grammar tree : List ℕ) where
     pub row_behind : SomeTreeListed grammar tree n → SomeRowListed grammar tree (row_of r) (n + 1)
     row_behind s = behind s.there (tree_opened _ _ _ _ _ s.there s.stands)
 
-    module _ {i next : ℕ} {sets old new : List ℕ} (room : node_count tree ≤ length old) (rest : RowDone (row_of r) (n + 1) i sets (set old n i) new next) where
+    module _ {i next : ℕ} {sets old new : List ℕ} (room : node_count tree ≤ length old) (rest : RowDone (row_of r) (n + 1) i sets (slice_set old n i) new next) where
       opened_given : {ts : List Token} {k : ℕ} (T : Tree) → OpenedIn ts n k T → NodeGiven grammar T n i sets old new next
       unfolding nodes sets_of least_choice flat AllUpTo
       opened_given {ts} {k} T (opened R h at) =
@@ -86,63 +98,96 @@ module _ (grammar tree : List ℕ) where
       rw (over, row_ended _ _ _ n k R (rw over at at)) (record { node = omega arith; given = λ after stand all. sym (written_none n old) })
 
   -- the row of node n is empty: its number alone is written
-  pub empty_given : (n : ℕ) {i : ℕ} {sets old : List ℕ} → count_of grammar (node_at tree n) ≡ 0 → node_count tree ≤ length old → NodeDone n i sets old (set old n i) (n + 1)
+  pub empty_given : (n : ℕ) {i : ℕ} {sets old : List ℕ} → count_of grammar (node_at tree n) ≡ 0 → node_count tree ≤ length old → NodeDone n i sets old (slice_set old n i) (n + 1)
   empty_given n none room =
       let p = node_at tree n in
       node_given n {r = record { left = left_of grammar p; first = first_of grammar p; count = count_of grammar p }} (record { left = refl; first = refl; count = refl }) room (row_end_given (omega (arith, none)))
 
-  -- symbol y, which the reader gives as s, comes first
-  module _ (y to n : ℕ) {s : SymbolRead} (more : y < to) (symbol : SymbolIs grammar y s) where
+  -- symbol y, which the reader gives as s, comes first of some entries, and the others are left
+  module _ {from left : Range ℕ} {y : ℕ} {s : SymbolRead} (turn : nat_range_steps from (Some y) left) (symbol : SymbolIs grammar y s) where
+    more : y < from.end
+    more = omega (arith, turn.1.0, turn.1.1)
+
+    row_from : row_at grammar from ≡ symbols grammar y from.end
+    row_from = rw turn.1.1
+
+    row_left : row_at grammar left ≡ symbols grammar (y + 1) from.end
+    row_left = rw (turn.0, turn.1.2, turn.1.1)
+
+    -- so its row is that symbol, then the others
+    first_symbol : row_at grammar from ≡ symbol_at grammar y ∷ row_at grammar left
+    first_symbol = rw (row_from, row_left, row_more (symbol_at grammar) y from.end more)
+
     -- a terminal
-    module _ (terminal : s.kind ≡ 0) where
-      after_token : {ts : List Token} {k : ℕ} (R : Row) → TokenIn ts (symbols grammar (y + 1) to) n k R → SomeRowListed grammar tree (symbols grammar (y + 1) to) n
+    module _ {n : ℕ} (terminal : Terminal ≡ kind_of s.kind) where
+      token_here : {ts : List Token} {k : ℕ} (R : Row) → RowListed grammar tree ts (row_at grammar from) n k R → TokenIn ts (row_at grammar left) n k R
+      token_here R at = rw row_left (token_in grammar tree more symbol (terminal_is _ terminal) R (rw row_from at at))
+
+      after_token : {ts : List Token} {k : ℕ} (R : Row) → TokenIn ts (row_at grammar left) n k R → SomeRowListed grammar tree (row_at grammar left) n
       after_token {ts} {k} R (token_first later h at) = record { ts = ts; k = k + 1; there = later; stands = at }
 
       -- the rest of the row stands at the same node
-      pub row_after_token : SomeRowListed grammar tree (symbols grammar y to) n → SomeRowListed grammar tree (symbols grammar (y + 1) to) n
-      row_after_token r = after_token r.there (token_in grammar tree more symbol terminal r.there r.stands)
+      row_after_token : SomeRowListed grammar tree (row_at grammar from) n → SomeRowListed grammar tree (row_at grammar left) n
+      row_after_token r = after_token r.there (token_here r.there r.stands)
 
-      module _ {i next : ℕ} {sets old new : List ℕ} (rest : RowDone (symbols grammar (y + 1) to) n i sets old new next) where
-        first_token : {ts : List Token} {k : ℕ} (R : Row) → TokenIn ts (symbols grammar (y + 1) to) n k R → RowGiven grammar R (symbols grammar y to) n i sets old new next
+      module _ {i next : ℕ} {sets old new : List ℕ} (rest : RowDone (row_at grammar left) n i sets old new next) where
+        first_token : {ts : List Token} {k : ℕ} (R : Row) → TokenIn ts (row_at grammar left) n k R → RowGiven grammar R (row_at grammar from) n i sets old new next
         unfolding row_nodes row_sets least_choices flats
         first_token {ts} {k} R (token_first later h at) =
             let below = rest ts (k + 1) later at in
-            rw (row_more (symbol_at grammar) y to more) (record { node = below.node; given = below.given })
+            rw first_symbol (record { node = below.node; given = below.given })
 
         -- a token has no number
-        pub token_given : RowDone (symbols grammar y to) n i sets old new next
-        token_given ts k R at = first_token R (token_in grammar tree more symbol terminal R at)
+        token_given : RowDone (row_at grammar from) n i sets old new next
+        token_given ts k R at = first_token R (token_here R at)
+
+      pub token_reached : {entries : Range ℕ} {m i : ℕ} {sets old now : List ℕ} → RowReached entries from m n i sets old now → RowReached entries left m n i sets old now
+      token_reached row =
+          record {
+            end = turn.0 ∙ row.end;
+            nodes = row.nodes;
+            places = row.places;
+            stands = row_after_token row.stands;
+            completes = λ final r rest. row.completes final r (token_given rest);
+          }
 
     -- a nonterminal
-    module _ (nonterminal : s.kind ≡ 0 → ⊥) where
-      tree_of : {ts : List Token} {k : ℕ} (R : Row) → ChildIn ts (symbols grammar (y + 1) to) n k R → SomeTreeListed grammar tree n
+    module _ {n : ℕ} (nonterminal : Nonterminal ≡ kind_of s.kind) where
+      child_here : {ts : List Token} {k : ℕ} (R : Row) → RowListed grammar tree ts (row_at grammar from) n k R → ChildIn ts (row_at grammar left) n k R
+      child_here R at = rw row_left (child_in grammar tree more symbol (nonterminal_is _ nonterminal) R (rw row_from at at))
+
+      tree_of : {ts : List Token} {k : ℕ} (R : Row) → ChildIn ts (row_at grammar left) n k R → SomeTreeListed grammar tree n
       tree_of {ts} {k} R (child_first T later there at) = record { ts = ts; k = k; there = T; stands = there }
 
       -- its tree stands there
-      pub tree_here : SomeRowListed grammar tree (symbols grammar y to) n → SomeTreeListed grammar tree n
-      tree_here r = tree_of r.there (child_in grammar tree more symbol nonterminal r.there r.stands)
+      pub tree_here : SomeRowListed grammar tree (row_at grammar from) n → SomeTreeListed grammar tree n
+      tree_here r = tree_of r.there (child_here r.there r.stands)
+
+      -- so the next node is one of the tree image
+      pub child_listed : SomeRowListed grammar tree (row_at grammar from) n → n < node_count tree
+      child_listed r = node_listed (tree_here r)
 
       module _ {j next : ℕ} {sets old new : List ℕ} (first : NodeDone n j sets old new next) where
-        after_child : {ts : List Token} {k : ℕ} (R : Row) → ChildIn ts (symbols grammar (y + 1) to) n k R → SomeRowListed grammar tree (symbols grammar (y + 1) to) next × (n ≤ next)
+        after_child : {ts : List Token} {k : ℕ} (R : Row) → ChildIn ts (row_at grammar left) n k R → SomeRowListed grammar tree (row_at grammar left) next × (n ≤ next)
         after_child {ts} {k} R (child_first T later there at) =
             let below = first ts k T there in
             (record { ts = ts; k = k + length (tokens T); there = later; stands = rw below.node at }, omega (arith, below.node))
 
         -- and the rest of the row behind it
-        pub row_after_child : SomeRowListed grammar tree (symbols grammar y to) n → SomeRowListed grammar tree (symbols grammar (y + 1) to) next × (n ≤ next)
-        row_after_child r = after_child r.there (child_in grammar tree more symbol nonterminal r.there r.stands)
+        row_after_child : SomeRowListed grammar tree (row_at grammar from) n → SomeRowListed grammar tree (row_at grammar left) next × (n ≤ next)
+        row_after_child r = after_child r.there (child_here r.there r.stands)
 
         module _ {i last : ℕ} {S : Set} {final : List ℕ} (room : node_count tree ≤ length old) (low : S.low ≡ get_or sets (2 * n) 0) (high : S.high ≡ get_or sets (2 * n + 1) 0)
-            (number : j ≡ min (least s.relation i S) unbounded) (rest : RowDone (symbols grammar (y + 1) to) next i sets new final last) where
-          first_child : {ts : List Token} {k : ℕ} (R : Row) → ChildIn ts (symbols grammar (y + 1) to) n k R → RowGiven grammar R (symbols grammar y to) n i sets old final last
+            (number : j ≡ min (least s.relation i S) unbounded) (rest : RowDone (row_at grammar left) next i sets new final last) where
+          first_child : {ts : List Token} {k : ℕ} (R : Row) → ChildIn ts (row_at grammar left) n k R → RowGiven grammar R (row_at grammar from) n i sets old final last
           unfolding row_nodes row_sets least_choices flats
           first_child {ts} {k} R (child_first T later there at) =
               let G = production_at grammar in
               let due = least (symbol_at grammar y).relation i (set_of G unbounded T) in
-              let w = flats (least_choices G unbounded later (symbols grammar (y + 1) to) i) in
+              let w = flats (least_choices G unbounded later (row_at grammar left) i) in
               let above = first ts k T there in
               let below = rest ts (k + length (tokens T)) later (rw above.node at) in
-              rw (row_more (symbol_at grammar) y to more) (record {
+              rw first_symbol (record {
                 node = rw length-append (omega (arith, above.node, below.node));
                 given = λ after stand all.
                     let x = row_sets G unbounded later ++ after in
@@ -159,5 +204,17 @@ module _ (grammar tree : List ℕ) where
               })
 
           -- its numbers are written before those of the rest
-          pub child_given : RowDone (symbols grammar y to) n i sets old final last
-          child_given ts k R at = first_child R (child_in grammar tree more symbol nonterminal R at)
+          child_given : RowDone (row_at grammar from) n i sets old final last
+          child_given ts k R at = first_child R (child_here R at)
+
+        pub child_reached : {entries : Range ℕ} {m i : ℕ} {S : Set} {start : List ℕ} → node_count tree ≤ length start → S.low ≡ get_or sets (2 * n) 0 → S.high ≡ get_or sets (2 * n + 1) 0 →
+            j ≡ min (least s.relation i S) unbounded → length new ≡ length old → RowReached entries from m n i sets start old → RowReached entries left m next i sets start new
+        child_reached {S = S} room low high number same row =
+            let rest = row_after_child row.stands in
+            record {
+              end = turn.0 ∙ row.end;
+              nodes = omega (arith, rest.1, row.nodes);
+              places = same ∙ row.places;
+              stands = rest.0;
+              completes = λ final r later. row.completes final r (child_given {S = S} (omega (arith, room, row.places)) low high number later);
+            }

@@ -1,8 +1,5 @@
 -- What the contract of the indentation pass allows is one outcome: the tree that stands there fixes it.
-use mathlib.Core.Path.{◌≡◌, sym, ◌∙◌}
-use mathlib.Core.List.{List, ◌++◌}
-use Prim.Native.Nat.{ℕ, ◌*◌}
-use lib.ListN.{drop}
+use Rattle.std.proofs.Common.{◌≡◌, sym, ◌∙◌, List, ◌++◌, ℕ, ◌*◌, drop}
 use Rattle.rules.specs.Choice.{flat}
 use Rattle.rules.specs.Stored.{unbounded}
 use Rattle.rules.specs.Interval.{sets_of, least_choice}

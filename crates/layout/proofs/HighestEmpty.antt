@@ -1,10 +1,6 @@
 -- Laws of the search for the highest-numbered empty set, one for each way through its loop.
-use mathlib.Core.Path.{◌≡◌, refl}
-use mathlib.Core.List.{List, ◌++◌}
-use Prim.Native.Nat.{ℕ, zero, suc, ◌+◌, ◌*◌, ◌<◌, ◌≤◌}
-use native.Mathlib.Omega.{arith}
-use lib.ListN.{length, get_or, get_or-append}
-use borrow.Author.Tests.{lt-ltb, le-ltb}
+use Rattle.std.proofs.Common.{◌≡◌, refl, List, ◌++◌, ℕ, zero, suc, ◌+◌, ◌*◌, ◌<◌, ◌≤◌, arith, length, get_or, lt-ltb, le-ltb}
+use Rattle.std.proofs.Math.ListN.{get_or-append}
 use Rattle.rules.specs.Interval.{highest_empty}
 
 module _ (sets : List ℕ) where

@@ -1,18 +1,19 @@
 -- The row of a node as the code reads it: the symbols from an entry y up to `end`.
-use mathlib.Core.Path.{◌≡◌}
-use mathlib.Core.List.{List, [], ◌∷◌}
-use Prim.Native.Nat.{ℕ, suc, ◌+◌, ◌-◌, ◌<◌, ◌≤◌}
-use native.Mathlib.Omega.{arith}
-use native.Mathlib.Numerals.{add-one}
-use lib.ListN.{length, get_or}
+use Rattle.std.proofs.Common.{◌≡◌, ◌≢◌, refl, ℕ, zero, suc, ◌+◌, ◌-◌, ◌<◌, ◌≤◌, List, [], ◌∷◌, length, get_or, arith, add-one, leb-true}
+use Rattle.std.proofs.Math.Dec.{eqb-suc-zero}
+use Rattle.rules.specs.Limits.{max_nodes}
 use Rattle.rules.specs.Grammar.{Symbol, Token}
 use Rattle.rules.specs.Tree.{Row}
-use Rattle.fields.specs.Fields.{field_at, Bytes, list_from}
-use Rattle.grammar_image.specs.GrammarImage.{symbol_at, production_at, ProductionIs, SymbolIs}
+use Rattle.fields.specs.Fields.{WellFormed, list_from}
+use Rattle.fields.proofs.Formed.{formed_parts}
+use Rattle.grammar_image.specs.GrammarImage.{production_count, symbol_at, production_at, ProductionIs, SymbolIs}
+use Rattle.grammar_image.specs.Kinds.{kind_of}
+use Rattle.grammar_image.specs.declared.Kind.TheVariants.{Terminal, Nonterminal}
 use Rattle.grammar_image.specs.declared.Production.{Production as ProductionRead}
 use Rattle.grammar_image.specs.declared.Symbol.{Symbol as SymbolRead}
-use Rattle.tree_image.specs.TreeImage.{node_at, nodes_of}
+use Rattle.tree_image.specs.TreeImage.{node_count, node_at, nodes_of, tree_fields, header_fields, records_fields}
 use Rattle.tree_image.proofs.Lists.{length_nodes, node_of}
+use Rattle.images.specs.Formed.{FormedTree}
 use Rattle.layout.specs.Standing.{symbols, RowListed}
 use Rattle.layout.proofs.Standing.{TokenFirst, token_first_lem, ChildFirst, child_first_lem}
 
@@ -38,10 +39,23 @@ row_none f y end h =
     let e : end - y ≡ 0 = omega arith in
     rw e
 
--- a count of an image fits 16 bits
-pub count_fits : (image : List ℕ) → Bytes image → field_at image 0 < 65536
-unfolding field_at
-count_fits image bytes = omega (arith, bytes 0, bytes 1)
+-- the number of nodes fits 16 bits
+pub nodes_fit : (grammar tree : List ℕ) → FormedTree grammar tree → node_count tree < 65536
+unfolding tree_fields header_fields WellFormed
+nodes_fit grammar tree formed =
+    let header = (formed_parts (header_fields tree) (records_fields (production_count grammar) tree) formed.tree_formed).0 in
+    omega (arith, leb-true (node_count tree) max_nodes header.1.1.0)
+
+-- what stands at a symbol is told by its kind
+pub terminal_is : (kind : ℕ) → Terminal ≡ kind_of kind → kind ≡ 0
+terminal_is zero is = refl
+terminal_is (suc k) is =
+    let other : Terminal ≡ Nonterminal = rw eqb-suc-zero at is in
+    cc
+
+pub nonterminal_is : (kind : ℕ) → Nonterminal ≡ kind_of kind → kind ≢ 0
+nonterminal_is zero is e = cc
+nonterminal_is (suc k) is e = cc
 
 -- symbol y, which the reader gives as s, comes first in a row that stands
 module _ (grammar tree : List ℕ) {ts : List Token} {y to n k : ℕ} {s : SymbolRead} (more : y < to) (symbol : SymbolIs grammar y s) where

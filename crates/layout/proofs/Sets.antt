@@ -1,10 +1,5 @@
 -- A set is read where it stands.
-use mathlib.Core.Path.{◌≡◌, ap, ◌∙◌}
-use mathlib.Core.List.{List, ◌∷◌, ◌++◌}
-use Prim.Native.Nat.{ℕ, ◌+◌, ◌≤◌}
-use native.Mathlib.Numerals.{add-one}
-use lib.ListN.{length, get_or, take, drop}
-use lib.Seq.{length-take-le, drop_at}
+use Rattle.std.proofs.Common.{◌≡◌, ap, ◌∙◌, List, ◌∷◌, ◌++◌, ℕ, ◌+◌, ◌≤◌, add-one, length, get_or, take, drop, length-take-le, drop_at}
 use Rattle.rules.specs.declared.relation.Set.{Set}
 use Rattle.rules.proofs.Lists.{head_met}
 use Rattle.layout.specs.Written.{written_at}

@@ -1,12 +1,6 @@
 -- Laws of entries written into a list: two runs of entries one behind the other are one run.
-use mathlib.Core.Path.{◌≡◌, ◌∙◌}
-use mathlib.Core.List.{List, [], ◌∷◌, ◌++◌, append_assoc}
-use Prim.Native.Nat.{ℕ, ◌+◌, ◌<◌, ◌≤◌}
-use native.Mathlib.Nat.{add-zero, add_assoc}
-use native.Mathlib.Numerals.{add-one}
-use native.Mathlib.Omega.{arith}
-use lib.ListN.{length, take, drop, length-append, take-append-drop, set}
-use lib.Seq.{length-take-le, take_at, drop_at, take-take, take-append-le, drop-drop, set_split, sets-eq}
+use Rattle.std.proofs.Common.{◌≡◌, ◌∙◌, List, [], ◌∷◌, ◌++◌, append_assoc, ℕ, ◌+◌, ◌<◌, ◌≤◌, add-zero, add_assoc, add-one, arith, length, take, drop, length-append, take-append-drop, set, length-take-le, take_at, drop_at, take-take, drop-drop}
+use Rattle.std.proofs.Math.Seq.{take-append-le, set_split, sets-eq}
 use Rattle.layout.specs.Written.{written_at}
 
 -- nothing written

@@ -36,11 +36,9 @@ pub fn highest_empty(sets: &[u32], count: u16) -> u16
     requires { 2 * count ≤ length sets.now }
     ensures { result ≡ highest_empty sets.now count }
 {
-    let mut n = count;
-    while n > 0 {
-        n = n - 1;
-        let at = 2 * (n as usize);
-        if sets[at + 1] < sets[at] {
+    for n in (0..count).rev() {
+        let set = set_at(sets, n);
+        if set.high < set.low {
             return n;
         }
     }

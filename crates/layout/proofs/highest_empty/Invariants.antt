@@ -1,10 +1,7 @@
-use Rattle.std.proofs.Common.{◌≡◌, ◌≤◌}
+use Rattle.std.proofs.Common.{◌≡◌}
 use Rattle.rules.specs.Interval.{highest_empty}
 use Rattle.layout.proofs.highest_empty.Given as goal
 
 -- the nodes are gone through from the last one down, and the first that is met is the answer
 abbrev pub invariant-loop-n : goal.invariant-loop-n
-invariant-loop-n l = (l.n ≤ l.count) × (highest_empty l.sets l.n ≡ highest_empty l.sets l.count)
-
-abbrev pub decreases-loop-n : goal.decreases-loop-n
-decreases-loop-n l = l.n
+invariant-loop-n l = highest_empty l.sets l.n ≡ highest_empty l.sets l.count
