@@ -1,4 +1,5 @@
 mod Entries
 mod Over
 pub mod Promised
+mod Ranges
 pub mod Within

@@ -5,11 +5,17 @@ use native.Mathlib.Omega.{arith}
 use borrow.Author.Tests.{eqb-true, leb-true}
 use lib.Dec.{leb}
 use lib.ListN.{length}
-use Rattle.rules.specs.Limits.{max_row}
+use Rattle.rules.specs.Limits.{max_productions, max_entries, max_row}
 use Rattle.fields.specs.Fields.{field_at, WellFormed, each}
 use Rattle.grammar_image.specs.GrammarImage.{production_count, entry_count, entry_byte, first_of, count_of, starts_at}
 use Rattle.grammar_image.specs.GrammarImage.{count_fields, offset_fields, production_fields, productions_fields, symbols_fields, grammar_fields}
 use Rattle.fields.proofs.Formed.{formed_parts, each_formed, both_true}
+
+-- the limits that the records need
+pub counts_within : (image : List ℕ) → WellFormed (count_fields image) → (production_count image ≤ max_productions) × (entry_count image ≤ max_entries)
+unfolding count_fields WellFormed
+counts_within image formed =
+    (leb-true (production_count image) max_productions formed.1.1.1.1.1.1.1.0, leb-true (entry_count image) max_entries formed.1.1.1.1.1.1.1.1.0)
 
 -- the entries end where the image does
 pub entries_within : (image : List ℕ) → WellFormed (offset_fields image) → entry_byte image (entry_count image) ≤ length image

@@ -1,17 +1,20 @@
 // The grammar image: its check, its counts, and its productions and symbols by number.
 #![tactic(auto)]
 
-ghost use Rattle.std.specs.Prelude.{◌≡◌, ◌+◌, ◌*◌, ◌<◌, ◌≤◌, ◌++◌, length, get_or};
-ghost use Rattle.fields.specs.Fields.{field_at, each, each_from, WellFormed, first_fault, nowhere};
+ghost use Rattle.std.specs.Prelude.{◌≡◌, ◌+◌, ◌*◌, ◌<◌, ◌≤◌, ◌++◌, length, get_or, IfOk, IfErr, Err};
+ghost use Rattle.rules.specs.Limits.{max_entries, max_productions};
+ghost use Rattle.fields.specs.Fields.{field_at, Bytes, each, each_from, WellFormed, first_fault, nowhere};
 ghost use Rattle.grammar_image.specs.GrammarImage.{production_count, entry_count, entry_byte, starts_at};
-ghost use Rattle.grammar_image.specs.Kinds.{kind_of};
+ghost use Rattle.grammar_image.specs.Kinds.{kind_of, bound_of};
 ghost use Rattle.grammar_image.specs.GrammarImage.{Counted, ProductionIs, SymbolIs};
+ghost use Rattle.grammar_image.specs.Headers.{counted_prop};
 ghost use Rattle.grammar_image.specs.GrammarImage.{count_fields, offset_fields, production_fields};
 ghost use Rattle.grammar_image.specs.GrammarImage.{productions_fields};
 ghost use Rattle.grammar_image.specs.GrammarImage.{symbol_fields, symbols_fields, grammar_fields};
 
-use fields::{Checked, byte_at, field_at};
+use fields::{Fault, byte_at, field_at};
 use rules::{ENTRIES, NONTERMINALS, PRODUCTIONS, ROW, TERMINALS};
+use std::ops::Range;
 
 // The header of a grammar image.
 #[derive(Clone, Copy)]
@@ -44,6 +47,29 @@ pub struct Symbol {
 pub enum Kind {
     Terminal,
     Nonterminal,
+}
+
+impl Production {
+    // The symbol entries of its row.
+    pub fn entries(self) -> Range<u32>
+        ensures start { result.start ≡ self.first }
+        ensures end { result.end ≡ self.first + self.count }
+    {
+        let first = u32::from(self.first);
+        first..first + u32::from(self.count)
+    }
+}
+
+impl Counts {
+    // How many of this kind there are: their numbers are below it.
+    fn of(self, kind: Kind) -> u16
+        ensures { result ≡ bound_of self kind }
+    {
+        match kind {
+            Kind::Terminal => self.terminals,
+            Kind::Nonterminal => self.nonterminals,
+        }
+    }
 }
 
 impl Symbol {
@@ -85,7 +111,7 @@ pub fn production_at(image: &[u8], p: u16) -> Production
     requires { 16 + 6 * p + 6 ≤ length image.now }
     ensures { ProductionIs image.now p result }
 {
-    let at = 16 + 6 * (p as usize);
+    let at = 16 + 6 * usize::from(p);
     Production {
         left: field_at(image, at),
         first: field_at(image, at + 2),
@@ -98,7 +124,7 @@ pub fn symbol_at(image: &[u8], y: u32) -> Symbol
     requires { entry_byte image.now y + 4 ≤ length image.now }
     ensures { SymbolIs image.now y result }
 {
-    let at = 16 + 6 * (field_at(image, 6) as usize) + 4 * (y as usize);
+    let at = 16 + 6 * usize::from(field_at(image, 6)) + 4 * (y as usize);
     Symbol {
         kind: byte_at(image, at),
         relation: byte_at(image, at + 1),
@@ -106,236 +132,234 @@ pub fn symbol_at(image: &[u8], y: u32) -> Symbol
     }
 }
 
-// The header up to its symbol entries.
-fn check_counts(image: &[u8], counts: Counts) -> Checked
-    requires counted { Counted image.now counts }
-    requires header { 16 ≤ length image.now }
-    ensures { result ≡ first_fault (count_fields image.now) }
-{
-    if counts.terminals < 1 {
-        return Checked::Fault(0);
-    }
-    if counts.terminals > TERMINALS {
-        return Checked::Fault(0);
-    }
-    if counts.nonterminals < 1 {
-        return Checked::Fault(2);
-    }
-    if counts.nonterminals > NONTERMINALS {
-        return Checked::Fault(2);
-    }
-    if counts.start >= counts.nonterminals {
-        return Checked::Fault(4);
-    }
-    if counts.productions < 1 {
-        return Checked::Fault(6);
-    }
-    if counts.productions > PRODUCTIONS {
-        return Checked::Fault(6);
-    }
-    if counts.entries > ENTRIES {
-        return Checked::Fault(8);
-    }
-    Checked::Good
+// A grammar image whose header lies within it, with the counts of that header.
+#[derive(Clone, Copy)]
+struct Header<'a> {
+    image: &'a [u8],
+    counts: Counts,
+    ghost bytes: { Bytes image.now },
+    ghost within: { 16 ≤ length image.now },
+    ghost counted: { Counted image.now counts } by { counted_prop image.now counts },
 }
 
-// The header from the offset of the productions on.
-fn check_offsets(image: &[u8], counts: Counts) -> Checked
-    requires counted { Counted image.now counts }
-    requires header { 16 ≤ length image.now }
-    ensures { result ≡ first_fault (offset_fields image.now) }
-{
-    let symbols = 16 + 6 * (counts.productions as usize);
-    if field_at(image, 10) != 16 {
-        return Checked::Fault(10);
-    }
-    if field_at(image, 12) as usize != symbols {
-        return Checked::Fault(12);
-    }
-    let total = field_at(image, 14) as usize;
-    if total != symbols + 4 * (counts.entries as usize) {
-        return Checked::Fault(14);
-    }
-    if total != image.len() {
-        return Checked::Fault(14);
-    }
-    Checked::Good
+// And its records, once the header keeps its rules: they lie within the image.
+#[derive(Clone, Copy)]
+struct Records<'a> {
+    header: Header<'a>,
+    ghost productions: { production_count header.image.now ≤ max_productions },
+    ghost entries: { entry_count header.image.now ≤ max_entries },
+    ghost within: { entry_byte header.image.now (entry_count header.image.now) ≤ length header.image.now },
 }
 
-// Whether field f of production p keeps its rule, where the one before ended at `starts`.
-fn production_keeps(image: &[u8], counts: Counts, p: usize, f: usize, starts: usize) -> bool
-    requires counted { Counted image.now counts }
-    requires there { (16 + 6 * p + 6 ≤ length image.now) × (f < 3) }
-    requires starts { (starts ≡ starts_at image.now p) × (starts < 65536) }
-    ensures { result ≡ (get_or (production_fields image.now p) f nowhere).keeps }
-{
-    let value = field_at(image, 16 + 6 * p + 2 * f) as usize;
-    match f {
-        0 => value < counts.nonterminals as usize,
-        1 => value == starts,
-        _ => value <= ROW as usize && starts + value <= counts.entries as usize,
+impl<'a> Header<'a> {
+    // A fault is the image's length where that is under 16.
+    fn read(image: &'a [u8]) -> Result<Header<'a>, Fault>
+        ensures read { IfOk result (λ header. header.image.now ≡ image.now) }
+        ensures short { IfErr result (λ fault. Err fault ≡ first_fault (grammar_fields image.now)) }
+    {
+        let length = image.len();
+        if length < 16 {
+            return Err(Fault { byte: length as u32 });
+        }
+        Ok(Header {
+            image,
+            counts: counts_at(image),
+        })
+    }
+
+    // The byte of symbol entry y.
+    fn entry_byte(&self, y: u16) -> u32
+        ensures { result ≡ entry_byte self.now.image.now y }
+    {
+        16 + 6 * u32::from(self.counts.productions) + 4 * u32::from(y)
+    }
+
+    // The header up to its symbol entries.
+    fn check_counts(&self) -> Result<(), Fault>
+        ensures { result ≡ first_fault (count_fields self.now.image.now) }
+    {
+        if !(1..=TERMINALS).contains(&self.counts.terminals) {
+            return Err(Fault { byte: 0 });
+        }
+        if !(1..=NONTERMINALS).contains(&self.counts.nonterminals) {
+            return Err(Fault { byte: 2 });
+        }
+        if self.counts.start >= self.counts.nonterminals {
+            return Err(Fault { byte: 4 });
+        }
+        if !(1..=PRODUCTIONS).contains(&self.counts.productions) {
+            return Err(Fault { byte: 6 });
+        }
+        if self.counts.entries > ENTRIES {
+            return Err(Fault { byte: 8 });
+        }
+        Ok(())
+    }
+
+    // The header from the offset of the productions on.
+    fn check_offsets(&self) -> Result<(), Fault>
+        ensures { result ≡ first_fault (offset_fields self.now.image.now) }
+    {
+        if field_at(self.image, 10) != 16 {
+            return Err(Fault { byte: 10 });
+        }
+        if u32::from(field_at(self.image, 12)) != self.entry_byte(0) {
+            return Err(Fault { byte: 12 });
+        }
+        let total = field_at(self.image, 14);
+        if u32::from(total) != self.entry_byte(self.counts.entries) || usize::from(total) != self.image.len() {
+            return Err(Fault { byte: 14 });
+        }
+        Ok(())
+    }
+
+    // The header's fields.
+    fn check(&self) -> Result<(), Fault>
+        ensures { result ≡ first_fault (count_fields self.now.image.now ++ offset_fields self.now.image.now) }
+    {
+        self.check_counts()?;
+        self.check_offsets()
     }
 }
 
-// The productions' fields, then their last end, which is a fault of byte 8.
-fn check_productions(image: &[u8], counts: Counts) -> Checked
-    requires counted { Counted image.now counts }
-    requires there { 16 + 6 * production_count image.now ≤ length image.now }
-    ensures { result ≡ first_fault (productions_fields image.now) }
-{
-    let productions = counts.productions as usize;
-    let mut starts = 0;
-    let fault = 'search: loop {
-        for p in 0..productions {
-            for f in 0..3 {
-                if !production_keeps(image, counts, p, f, starts) {
-                    break 'search (16 + 6 * p + 2 * f) as u32;
+impl Records<'_> {
+    // Whether field f of production p keeps its rule, where the one before ended at `starts`.
+    fn production_keeps(&self, p: u16, f: u32, starts: u16) -> bool
+        requires production { p < production_count self.now.header.image.now }
+        requires field { f < 3 }
+        requires starts { (starts ≡ starts_at self.now.header.image.now p) × (starts ≤ max_entries) }
+        ensures { result ≡ (get_or (production_fields self.now.header.image.now p) f nowhere).keeps }
+    {
+        let production = production_at(self.header.image, p);
+        let counts = self.header.counts;
+        match f {
+            0 => production.left < counts.nonterminals,
+            1 => production.first == starts,
+            _ => production.count <= ROW && starts + production.count <= counts.entries,
+        }
+    }
+
+    // The productions' fields, then their last end, which is a fault of byte 8.
+    fn check_productions(&self) -> Result<(), Fault>
+        ensures { result ≡ first_fault (productions_fields self.now.header.image.now) }
+    {
+        let counts = self.header.counts;
+        let mut starts = 0;
+        let byte = 'search: loop {
+            for p in 0..counts.productions {
+                for f in 0..3 {
+                    if !self.production_keeps(p, f, starts) {
+                        break 'search 16 + 6 * u32::from(p) + 2 * f;
+                    }
+                }
+                starts += production_at(self.header.image, p).count;
+            }
+            if starts != counts.entries {
+                break 'search 8;
+            }
+            return Ok(());
+        };
+        Err(Fault { byte })
+    }
+
+    // Whether field f of symbol entry y keeps its rule.
+    fn symbol_keeps(&self, y: u16, f: u32) -> bool
+        requires entry { y < entry_count self.now.header.image.now }
+        requires field { f < 3 }
+        ensures { result ≡ (get_or (symbol_fields self.now.header.image.now y) f nowhere).keeps }
+    {
+        let symbol = symbol_at(self.header.image, u32::from(y));
+        match f {
+            0 => symbol.kind <= 1,
+            1 => symbol.relation <= 3,
+            _ => symbol.number < self.header.counts.of(symbol.kind()),
+        }
+    }
+
+    // How far the fields of symbol entry y break their rules: 0 where each keeps its own. Kind and
+    // relation are read as one field.
+    fn entry_over(&self, y: u16) -> u16
+        requires { y < entry_count self.now.header.image.now }
+        ensures good { result ≡ 0 → WellFormed (symbol_fields self.now.header.image.now y) }
+        ensures small { result < 256 }
+    {
+        let Header { image, counts, .. } = self.header;
+        let at = self.header.entry_byte(y) as usize;
+        let head = field_at(image, at);
+        let kind = head % 256;
+        let relation = head / 256;
+        let limit = if kind % 2 == 0 {
+            counts.terminals
+        } else {
+            counts.nonterminals
+        };
+        let beyond = u16::from(field_at(image, at + 2) >= limit);
+        kind / 2 + relation / 4 + beyond
+    }
+
+    // The same of the sixteen symbol entries from y on, all together.
+    fn sixteen_over(&self, y: u16) -> u16
+        requires { y + 16 ≤ entry_count self.now.header.image.now }
+        ensures { result ≡ 0 → WellFormed (each_from y 16 (symbol_fields self.now.header.image.now)) }
+    {
+        let mut over = 0;
+        for e in 0..16 {
+            over += self.entry_over(y + e);
+        }
+        over
+    }
+
+    // So many symbol entries from the first on keep their rules. They are tested sixteen at a time.
+    fn good_entries(&self) -> u16
+        ensures good { WellFormed (each result (symbol_fields self.now.header.image.now)) }
+        ensures within { result ≤ entry_count self.now.header.image.now }
+    {
+        let groups = self.header.counts.entries / 16;
+        for g in 0..groups {
+            if self.sixteen_over(16 * g) != 0 {
+                return 16 * g;
+            }
+        }
+        16 * groups
+    }
+
+    // The symbol entries' fields: the search begins behind those that were found good.
+    fn check_symbols(&self) -> Result<(), Fault>
+        ensures { result ≡ first_fault (symbols_fields self.now.header.image.now) }
+    {
+        let good = self.good_entries();
+        let byte = 'search: loop {
+            for y in good..self.header.counts.entries {
+                for f in 0..3 {
+                    if !self.symbol_keeps(y, f) {
+                        break 'search self.header.entry_byte(y) + f;
+                    }
                 }
             }
-            starts += field_at(image, 16 + 6 * p + 4) as usize;
-        }
-        if starts != counts.entries as usize {
-            break 'search 8;
-        }
-        return Checked::Good;
-    };
-    Checked::Fault(fault)
-}
-
-// Whether field f of symbol entry y keeps its rule.
-fn symbol_keeps(image: &[u8], counts: Counts, y: usize, f: usize) -> bool
-    requires counted { Counted image.now counts }
-    requires there { (entry_byte image.now y + 4 ≤ length image.now) × (f < 3) }
-    ensures { result ≡ (get_or (symbol_fields image.now y) f nowhere).keeps }
-{
-    let at = 16 + 6 * (counts.productions as usize) + 4 * y;
-    match f {
-        0 => byte_at(image, at) <= 1,
-        1 => byte_at(image, at + 1) <= 3,
-        _ => {
-            if byte_at(image, at) == 0 {
-                field_at(image, at + 2) < counts.terminals
-            } else {
-                field_at(image, at + 2) < counts.nonterminals
-            }
-        }
+            return Ok(());
+        };
+        Err(Fault { byte })
     }
-}
 
-// How far the fields of symbol entry y break their rules: 0 where each keeps its own. Kind and
-// relation are read as one field.
-fn entry_over(image: &[u8], counts: Counts, y: usize) -> u16
-    requires counted { Counted image.now counts }
-    requires there { entry_byte image.now y + 4 ≤ length image.now }
-    ensures good { result ≡ 0 → WellFormed (symbol_fields image.now y) }
-    ensures small { result < 256 }
-{
-    let at = 16 + 6 * (counts.productions as usize) + 4 * y;
-    let head = field_at(image, at);
-    let kind = head % 256;
-    let relation = head / 256;
-    let limit = if kind % 2 == 0 {
-        counts.terminals
-    } else {
-        counts.nonterminals
-    };
-    let beyond = if field_at(image, at + 2) < limit {
-        0
-    } else {
-        1
-    };
-    kind / 2 + relation / 4 + beyond
-}
-
-// The same of the sixteen symbol entries from y on, all together.
-fn sixteen_over(image: &[u8], counts: Counts, y: usize) -> u16
-    requires counted { Counted image.now counts }
-    requires there { entry_byte image.now (y + 16) ≤ length image.now }
-    ensures { result ≡ 0 → WellFormed (each_from y 16 (symbol_fields image.now)) }
-{
-    let mut over = 0;
-    for e in 0..16 {
-        over += entry_over(image, counts, y + e);
-    }
-    over
-}
-
-// So many symbol entries from the first on keep their rules. They are tested sixteen at a time.
-fn good_entries(image: &[u8], counts: Counts) -> usize
-    requires counted { Counted image.now counts }
-    requires there { entry_byte image.now (entry_count image.now) ≤ length image.now }
-    ensures good { WellFormed (each result (symbol_fields image.now)) }
-    ensures within { result ≤ entry_count image.now }
-{
-    let entries = counts.entries as usize;
-    let mut y = 0;
-    while entries - y >= 16 {
-        if sixteen_over(image, counts, y) != 0 {
-            return y;
+    // The records' fields: first the productions', then the symbols'.
+    fn check(&self) -> Result<(), Fault>
+        ensures
+        {
+            result ≡ first_fault
+                (productions_fields self.now.header.image.now ++ symbols_fields self.now.header.image.now)
         }
-        y += 16;
-    }
-    y
-}
-
-// The symbol entries' fields: the search begins behind those that were found good.
-fn check_symbols(image: &[u8], counts: Counts) -> Checked
-    requires counted { Counted image.now counts }
-    requires there { entry_byte image.now (entry_count image.now) ≤ length image.now }
-    ensures { result ≡ first_fault (symbols_fields image.now) }
-{
-    let entries = counts.entries as usize;
-    let symbols = 16 + 6 * (counts.productions as usize);
-    let good = good_entries(image, counts);
-    let fault = 'search: loop {
-        for y in good..entries {
-            for f in 0..3 {
-                if !symbol_keeps(image, counts, y, f) {
-                    break 'search (symbols + 4 * y + f) as u32;
-                }
-            }
-        }
-        return Checked::Good;
-    };
-    Checked::Fault(fault)
-}
-
-// The records' fields: first the productions', then the symbols'.
-fn check_records(image: &[u8], counts: Counts) -> Checked
-    requires counted { Counted image.now counts }
-    requires there { entry_byte image.now (entry_count image.now) ≤ length image.now }
-    ensures { result ≡ first_fault (productions_fields image.now ++ symbols_fields image.now) }
-{
-    match check_productions(image, counts) {
-        Checked::Fault(at) => Checked::Fault(at),
-        Checked::Good => check_symbols(image, counts),
-    }
-}
-
-// The header's fields.
-fn check_header(image: &[u8], counts: Counts) -> Checked
-    requires counted { Counted image.now counts }
-    requires header { 16 ≤ length image.now }
-    ensures { result ≡ first_fault (count_fields image.now ++ offset_fields image.now) }
-{
-    match check_counts(image, counts) {
-        Checked::Fault(at) => Checked::Fault(at),
-        Checked::Good => check_offsets(image, counts),
+    {
+        self.check_productions()?;
+        self.check_symbols()
     }
 }
 
 // Whether an image is a well-formed grammar image: good, or the byte of the first field that breaks
 // its rule, or the image's length where that is under 16.
-pub fn check_grammar(image: &[u8]) -> Checked
+pub fn check_grammar(image: &[u8]) -> Result<(), Fault>
     ensures { result ≡ first_fault (grammar_fields image.now) }
 {
-    let length = image.len();
-    if length < 16 {
-        return Checked::Fault(length as u32);
-    }
-    let counts = counts_at(image);
-    match check_header(image, counts) {
-        Checked::Fault(at) => Checked::Fault(at),
-        Checked::Good => check_records(image, counts),
-    }
+    let header = Header::read(image)?;
+    header.check()?;
+    Records { header }.check()
 }

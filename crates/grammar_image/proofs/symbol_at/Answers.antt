@@ -9,7 +9,7 @@ pub returns : goal.returns
 unfolding symbol_at
 returns c =
     let image = c.args.image.now in
-    let entry = at_entry image c.args.y c.field_at.ensures in
+    let entry = at_entry image c.args.y (c.from.ensures ∙ c.field_at.ensures) in
     record {
       kind = c.byte_at.ensures ∙ ap (λ (at : ℕ). get_or image at 0) entry;
       relation = c.byte_at-2.ensures ∙ ap (λ (at : ℕ). get_or image (at + 1) 0) entry;

@@ -2,12 +2,11 @@ use Rattle.std.proofs.Common.{◌≡◌, ℕ, zero, suc, ◌+◌, ◌*◌, ◌-�
 use borrow.Author.Tests.{leb-true}
 use lib.Dec.{leb}
 use Rattle.rules.specs.Limits.{max_row}
-use Rattle.fields.specs.Fields.{each, each_from, first_fault, nowhere}
-use Rattle.fields.specs.declared.Checked.TheVariants.{Fault}
+use Rattle.fields.specs.Fields.{fault_at, each, each_from, first_fault, nowhere}
 use Rattle.grammar_image.specs.GrammarImage.{entry_count, production_count, count_of, starts_at, production_fields, productions_fields}
 use Rattle.fields.proofs.Formed.{both_true}
 use Rattle.fields.proofs.Searching.{tests, pass, fail, done, then_good, then_fault, turn, turned, passed, failed, finished}
-use Rattle.grammar_image.proofs.check_productions.Goals as goal
+use Rattle.grammar_image.proofs.Records.check_productions.Goals as goal
 
 -- a production has three fields, at bytes 0, 2 and 4 of its record
 three : (image : List ℕ) (p : ℕ) → length (production_fields image p) ≡ 3
@@ -36,28 +35,28 @@ ends_within image p f b e t q =
 pub loop-p-init : goal.loop-p-init
 unfolding starts_at
 loop-p-init c =
-    let image = c.args.image.now in
-    let productions : production_count image ≡ c.args.counts.productions - 0 = omega arith in
+    let image = c.args.self.now.header.image.now in
+    let productions : production_count image ≡ c.args.self.now.header.counts.productions - 0 = omega arith in
     (ap (λ (n : ℕ). first_fault (each_from 0 n (production_fields image))) productions, c.search.invariant, omega arith)
 
 pub loop-f-init : goal.loop-f-init
 loop-f-init c =
-    let image = c.args.image.now in
-    (turn (production_fields image) c.args.counts.productions 3 (three image) c.loop-p.p c.loop-p-test.true c.loop-p.invariant.0, λ h. absurd (omega arith))
+    let image = c.args.self.now.header.image.now in
+    (turn (production_fields image) c.args.self.now.header.counts.productions 3 (three image) c.loop-p.p c.loop-p-test.true c.loop-p.invariant.0, λ h. absurd (omega arith))
 
 pub loop-f-preserved : goal.loop-f-preserved
 loop-f-preserved c =
-    let image = c.args.image.now in
+    let image = c.args.self.now.header.image.now in
     let kept = c.production_keeps.ensures in (
-      passed (production_fields image) c.args.counts.productions 3 (three image) c.loop-p.p c.loop-f.f _ c.loop-f-test.true kept (ap not c.if-not-production_keeps.false) c.loop-f.invariant.0,
+      passed (production_fields image) c.args.self.now.header.counts.productions 3 (three image) c.loop-p.p c.loop-f.f _ c.loop-f-test.true kept (ap not c.if-not-production_keeps.false) c.loop-f.invariant.0,
       λ h. ends_within image c.loop-p.p c.loop-f.f _ (omega arith) kept c.if-not-production_keeps.false,
     )
 
 pub loop-p-preserved : goal.loop-p-preserved
 loop-p-preserved c =
-    let image = c.args.image.now in
+    let image = c.args.self.now.header.image.now in
     let within = c.loop-f.invariant.1 (omega arith) in (
-      turned (production_fields image) c.args.counts.productions 3 (three image) c.loop-p.p c.loop-f.f c.loop-f-test.false c.loop-f.invariant.0,
+      turned (production_fields image) c.args.self.now.header.counts.productions 3 (three image) c.loop-p.p c.loop-f.f c.loop-f-test.false c.loop-f.invariant.0,
       omega (arith, starts_next image c.loop-p.p),
       omega arith,
     )
@@ -65,8 +64,8 @@ loop-p-preserved c =
 pub returns-in-search : goal.returns-in-search
 unfolding productions_fields
 returns-in-search c =
-    let image = c.args.image.now in
-    let good = finished (production_fields image) c.args.counts.productions 3 (three image) c.loop-p.p c.loop-p-test.false c.loop-p.invariant.0 in
+    let image = c.args.self.now.header.image.now in
+    let good = finished (production_fields image) c.args.self.now.header.counts.productions 3 (three image) c.loop-p.p c.loop-p-test.false c.loop-p.invariant.0 in
     let all : c.loop-p.p ≡ production_count image = omega arith in
     let last = ap (starts_at image) all in
     then_good (each (production_count image) (production_fields image)) _ (sym good) (pass _ _ (omega tests) done)
@@ -74,16 +73,16 @@ returns-in-search c =
 pub returns-then-not-production_keeps : goal.returns-then-not-production_keeps
 unfolding productions_fields
 returns-then-not-production_keeps c =
-    let image = c.args.image.now in
-    let fault = failed (production_fields image) c.args.counts.productions 3 (three image) c.loop-p.p c.loop-f.f _ c.loop-f-test.true c.production_keeps.ensures (ap not c.if-not-production_keeps.true) c.loop-f.invariant.0 in
+    let image = c.args.self.now.header.image.now in
+    let fault = failed (production_fields image) c.args.self.now.header.counts.productions 3 (three image) c.loop-p.p c.loop-f.f _ c.loop-f-test.true c.production_keeps.ensures (ap not c.if-not-production_keeps.true) c.loop-f.invariant.0 in
     then_fault (each (production_count image) (production_fields image)) _
-    (ap Fault (byte_of image c.loop-p.p c.loop-f.f c.loop-f-test.true) ∙ sym fault)
+    (ap fault_at (omega (arith, c.from.ensures, byte_of image c.loop-p.p c.loop-f.f c.loop-f-test.true)) ∙ sym fault)
 
 pub returns-then-starts-counts : goal.returns-then-starts-counts
 unfolding productions_fields
 returns-then-starts-counts c =
-    let image = c.args.image.now in
-    let good = finished (production_fields image) c.args.counts.productions 3 (three image) c.loop-p.p c.loop-p-test.false c.loop-p.invariant.0 in
+    let image = c.args.self.now.header.image.now in
+    let good = finished (production_fields image) c.args.self.now.header.counts.productions 3 (three image) c.loop-p.p c.loop-p-test.false c.loop-p.invariant.0 in
     let all : c.loop-p.p ≡ production_count image = omega arith in
     let last = ap (starts_at image) all in
     then_good (each (production_count image) (production_fields image)) _ (sym good) (fail _ _ (omega tests) refl)
