@@ -5,8 +5,8 @@ use Prim.Native.Nat.{ℕ, ◌+◌, ◌*◌, ◌%◌, ◌/◌}
 use native.Mathlib.Omega.{arith}
 use Rattle.rules.specs.Walk.{Answer}
 use Rattle.fields.specs.Images.{Images}
-use Rattle.fields.specs.declared.Checked.{Checked}
-use Rattle.packers.specs.declared.Packed.{Packed}
+use Rattle.fields.specs.Fields.{Checked}
+use Rattle.packers.specs.Answers.{Packed}
 use Rattle.packers.specs.Answers.{packed_number, packed_place, packed_length}
 use Rattle.packers.proofs.RoundTrip.{tree_outcome_unique, tokens_outcome_unique}
 use Rattle.judge.specs.Judged.{Lists}

@@ -1,10 +1,10 @@
 -- What the calls under a C name give: the answer of the function below each as one number of 64 bits.
 use Rattle.std.specs.Prelude.{◌≡◌, List, ℕ, ◌%◌, ◌/◌}
 use Rattle.rules.specs.Walk.{Answer}
-use Rattle.fields.specs.declared.Checked.{Checked}
+use Rattle.fields.specs.Fields.{Checked}
 use Rattle.fields.specs.Answers.{checked_number, checked_place}
 use Rattle.fields.specs.Images.{Images}
-use Rattle.packers.specs.declared.Packed.{Packed}
+use Rattle.packers.specs.Answers.{Packed}
 use Rattle.packers.specs.Answers.{packed_number, packed_place, packed_length}
 use Rattle.packers.specs.Packing.{TreePacked, TokensPacked}
 use Rattle.judge.specs.Judged.{Lists, Judged}

@@ -64,8 +64,8 @@ unfolding first_fault
 then_fault [] ys {e} h = absurd (fault≢good e.byte h)
 then_fault (f ∷ fs) ys {e} h = head_fault f.keeps (first_fault fs) (first_fault (fs ++ ys)) (fault_at f.byte) e h (then_fault fs ys)
 
--- a fault is handed on by `?` as it is
-pub handed : {A : Type 0} {r : Result A Fault} {e : Fault} → IsErr r × IsErrAnd r (λ (f : Fault). f ≡ e) → r ≡ Err e
+-- an error is handed on by `?` as it is
+pub handed : {A E : Type 0} {r : Result A E} {e : E} → IsErr r × IsErrAnd r (λ (f : E). f ≡ e) → r ≡ Err e
 handed {r} h = let p = err_from_is_err_and r h.1 in p.1 ∙ ap Err p.2
 
 -- a record of n: its fields, then those of the records after it

@@ -21,8 +21,8 @@ use Rattle.fields.specs.Images.{Images}
 use Rattle.grammar_image.specs.GrammarImage.{start_nonterminal, production_at}
 use Rattle.token_image.specs.TokenImage.{tokens_of, token_fields}
 use Rattle.tree_image.specs.TreeImage.{node_count, nodes_of, tree_fields}
-use Rattle.packers.specs.declared.Packed.{Packed}
-use Rattle.packers.specs.declared.Packed.TheVariants.{Written}
+use Rattle.packers.specs.Answers.{Packed}
+use Rattle.std.specs.Prelude.{Ok}
 use Rattle.packers.specs.Answers.{packed_number}
 use Rattle.packers.specs.Packing.{tree_image, token_image, TreePacked, TokensPacked}
 use Rattle.packers.proofs.RoundTrip.{terminal_of, column_of, tree_reads_back, tokens_read_back}
@@ -57,11 +57,11 @@ empty_below = empty_above
 
 -- "A packed list reads back as that list"
 pub tree_back : {productions out after : List ℕ} {r : Packed} {n : ℕ} →
-    TreePacked productions out r after → r ≡ Written n → nodes_of (take n after) ≡ productions
+    TreePacked productions out r after → r ≡ Ok n → nodes_of (take n after) ≡ productions
 tree_back = tree_reads_back _ _ _ _ _
 
 pub tokens_back : {terminals columns out after : List ℕ} {r : Packed} {n : ℕ} →
-    TokensPacked terminals columns out r after → r ≡ Written n →
+    TokensPacked terminals columns out r after → r ≡ Ok n →
     (map terminal_of (tokens_of (take n after)) ≡ terminals) × (map column_of (tokens_of (take n after)) ≡ columns)
 tokens_back = tokens_read_back _ _ _ _ _ _
 

@@ -13,8 +13,9 @@ use Rattle.rules.specs.Walk.{Answer, answer}
 use Rattle.rules.specs.Verdict.{Verdict, refused, empty, accepted}
 use Rattle.rules.proofs.Refusals.{answers, derives_answered}
 use Rattle.fields.specs.Images.{Images}
-use Rattle.fields.specs.declared.Checked.{Checked}
-use Rattle.fields.specs.declared.Checked.TheVariants.{Good, Fault}
+use Rattle.fields.specs.Fields.{Checked}
+use Rattle.std.specs.Prelude.{Ok, Err}
+use Rattle.fields.specs.Fields.{fault_at}
 use Rattle.fields.specs.Answers.{checked_number}
 use Rattle.fields.specs.Fields.{first_fault}
 use Rattle.fields.proofs.Promised.{well_formed_good}
@@ -101,8 +102,8 @@ first_not_four [] h e = omega arith
 first_not_four (a ∷ later) h e = not_four (eqb a.number 0) (first_refusal later) a (first_not_four later h.1) h.0 e
 
 checked_not_four : (refusal : ℕ) (c : Checked) → (refusal ≡ 4 → ⊥) → checked_number refusal c ≡ 4 → ⊥
-checked_not_four refusal Good h e = omega arith
-checked_not_four refusal (Fault byte) h e = h e
+checked_not_four refusal (Ok good) h e = omega arith
+checked_not_four refusal (Err fault) h e = h e
 
 pub never_four : (s : Images) → (derivation s).number ≡ 4 → ⊥
 unfolding tests room NoneFour

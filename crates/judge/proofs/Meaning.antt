@@ -30,7 +30,7 @@ use Rattle.token_image.specs.TokenImage.{tokens_of}
 use Rattle.tree_image.specs.TreeImage.{node_count, nodes_of}
 use Rattle.token_image.proofs.Columns.{columns_kept}
 use Rattle.tree_image.proofs.Lists.{length_nodes}
-use Rattle.packers.specs.declared.Packed.{Packed}
+use Rattle.packers.specs.Answers.{Packed}
 use Rattle.packers.specs.Answers.{packed_number}
 use Rattle.packers.specs.Packing.{tree_image, token_image, TreePacked, TokensPacked}
 use Rattle.packers.proofs.Refused.{refusal_writes_nothing}

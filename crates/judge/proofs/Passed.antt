@@ -10,8 +10,9 @@ use borrow.Author.Tests.{eqb-true, ltb-false, le-ltb}
 use Rattle.fields.specs.Images.{Images}
 use Rattle.rules.specs.Walk.{Answer, answer}
 use Rattle.rules.proofs.Refusals.{answers, derived, derives_answered}
-use Rattle.fields.specs.declared.Checked.{Checked}
-use Rattle.fields.specs.declared.Checked.TheVariants.{Good, Fault}
+use Rattle.fields.specs.Fields.{Checked}
+use Rattle.std.specs.Prelude.{Ok, Err}
+use Rattle.fields.specs.Fields.{fault_at}
 use Rattle.fields.specs.Answers.{checked_number}
 use Rattle.fields.specs.Fields.{first_fault}
 use Rattle.grammar_image.specs.GrammarImage.{terminal_count, production_count, start_nonterminal, production_at, grammar_fields}
@@ -54,17 +55,17 @@ first_below [] limit some h = some
 first_below (a ∷ later) limit some h = either_below limit (eqb a.number 0) (first_refusal later) a (first_below later limit some h.1) h.0
 
 checked_below : (refusal limit : ℕ) (c : Checked) → refusal < limit → checked_number refusal c < limit
-checked_below refusal limit Good h = omega arith
-checked_below refusal limit (Fault byte) h = h
+checked_below refusal limit (Ok good) h = omega arith
+checked_below refusal limit (Err fault) h = h
 
 room_below : (needed there : ℕ) → (room needed there).number < 12
 unfolding room
 room_below needed there = either_below 12 (ltb there needed) (answer 4 needed) (answer 0 0) (omega arith) (omega arith)
 
 -- a check that passes is good
-checked_good : (refusal : ℕ) (c : Checked) → (refusal ≡ 0 → ⊥) → checked_number refusal c ≡ 0 → Good ≡ c
-checked_good refusal Good some e = refl
-checked_good refusal (Fault byte) some e = absurd (some e)
+checked_good : (refusal : ℕ) (c : Checked) → (refusal ≡ 0 → ⊥) → checked_number refusal c ≡ 0 → Ok tt ≡ c
+checked_good refusal (Ok good) some e = refl
+checked_good refusal (Err fault) some e = absurd (some e)
 
 -- room that is there
 room_there : (needed there : ℕ) → (room needed there).number ≡ 0 → needed ≤ there

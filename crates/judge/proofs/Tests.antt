@@ -8,19 +8,21 @@ use lib.Dec.{eqb}
 use borrow.Author.Tests.{lt-ltb, le-ltb, eq-eqb}
 use Rattle.fields.specs.Images.{Images}
 use Rattle.rules.specs.Walk.{Answer, answer}
-use Rattle.fields.specs.declared.Checked.{Checked}
-use Rattle.fields.specs.declared.Checked.TheVariants.{Good, Fault}
+use Rattle.fields.specs.Fields.{Checked}
+use Rattle.std.specs.Prelude.{Ok, Err}
+use Rattle.fields.specs.declared.Fault.{Fault}
 use Rattle.fields.specs.Fields.{first_fault}
 use Rattle.grammar_image.specs.GrammarImage.{terminal_count, production_count, grammar_fields}
 use Rattle.token_image.specs.TokenImage.{token_fields}
 use Rattle.tree_image.specs.TreeImage.{node_count, tree_fields}
 use Rattle.derive.specs.declared.Refusal.{Refusal}
 use Rattle.derive.specs.declared.Refusal.TheVariants.{WrongNode, NodesEnd, WrongToken, TokensEnd, TooDeep, NodesRemain, TokensRemain}
-use Rattle.derive.specs.declared.Derivation.{Derivation}
-use Rattle.derive.specs.declared.Derivation.TheVariants.{Derived, Refused}
+use Rattle.std.specs.Prelude.{Result}
 use Rattle.derive.specs.Answers.{refusal_answer, derivation_answer}
 use Rattle.derive.specs.Images.{walk_in}
 use Rattle.judge.specs.Judged.{Entries, entries, room, tests, first_refusal, enough}
+use Rattle.judge.specs.Refusals.{Refusal as CheckRefusal, refusal_answer as check_answer}
+use Rattle.judge.specs.declared.Refusal.TheVariants.{Grammar, Tokens, Tree, Room, Derivation, Empty}
 use Rattle.judge.specs.Parts.{image_tests, room_tests, walk_tests}
 use Rattle.judge.proofs.Passed.{first_passed}
 
@@ -45,7 +47,22 @@ part_passed (a ∷ xs) ys e =
     let h = first_passed a xs e in
     part_passed xs ys h.1 ∙ skipped a (xs ++ ys) h.0
 
--- a refusal of the walk has a number other than 0
+-- a refusal has a number other than 0
+pub some_number : (r : CheckRefusal) → (check_answer r).number ≡ 0 → ⊥
+some_number (Grammar fault) e = absurd (omega arith)
+some_number (Tokens fault) e = absurd (omega arith)
+some_number (Tree fault) e = absurd (omega arith)
+some_number (Room needed) e = absurd (omega arith)
+some_number (Derivation (WrongNode n)) e = absurd (omega arith)
+some_number (Derivation (NodesEnd n)) e = absurd (omega arith)
+some_number (Derivation (WrongToken n)) e = absurd (omega arith)
+some_number (Derivation (TokensEnd n)) e = absurd (omega arith)
+some_number (Derivation (TooDeep n)) e = absurd (omega arith)
+some_number (Derivation (NodesRemain n)) e = absurd (omega arith)
+some_number (Derivation (TokensRemain n)) e = absurd (omega arith)
+some_number (Empty node) e = absurd (omega arith)
+
+-- one of the walk as well
 walk_refusal : (r : Refusal) (later : Answer) → cond (eqb (refusal_answer r).number 0) later (refusal_answer r) ≡ refusal_answer r
 walk_refusal (WrongNode n) later = refl
 walk_refusal (NodesEnd n) later = refl
@@ -55,33 +72,33 @@ walk_refusal (TooDeep n) later = refl
 walk_refusal (NodesRemain n) later = refl
 walk_refusal (TokensRemain n) later = refl
 
-only_walked : (r : Derivation) → derivation_answer r ≡ first_refusal (derivation_answer r ∷ [])
+only_walked : (r : Result (Unit {0}) Refusal) → derivation_answer r ≡ first_refusal (derivation_answer r ∷ [])
 unfolding first_refusal
-only_walked Derived = refl
-only_walked (Refused r) = sym (walk_refusal r (answer 0 0))
+only_walked (Ok derived) = refl
+only_walked (Err r) = sym (walk_refusal r (answer 0 0))
 
 module _ (s : Images) where
   -- 1 to 3
-  pub grammar_refused : {byte : ℕ} {r : Checked} → r ≡ first_fault (grammar_fields s.grammar) → r ≡ Fault byte → answer 1 byte ≡ first_refusal (image_tests s)
+  pub grammar_refused : {fault : Fault} → Err fault ≡ first_fault (grammar_fields s.grammar) → answer 1 fault.byte ≡ first_refusal (image_tests s)
   unfolding first_refusal image_tests
-  grammar_refused e f = rw (← e, f)
+  grammar_refused e = rw (← e)
 
-  module _ (one : Good ≡ first_fault (grammar_fields s.grammar)) where
-    pub tokens_refused : {byte T : ℕ} {r : Checked} → T ≡ terminal_count s.grammar → r ≡ first_fault (token_fields T s.tokens) → r ≡ Fault byte → answer 2 byte ≡ first_refusal (image_tests s)
+  module _ (one : Ok tt ≡ first_fault (grammar_fields s.grammar)) where
+    pub tokens_refused : {fault : Fault} {T : ℕ} → T ≡ terminal_count s.grammar → Err fault ≡ first_fault (token_fields T s.tokens) → answer 2 fault.byte ≡ first_refusal (image_tests s)
     unfolding first_refusal image_tests
-    tokens_refused t e f = rw (← one, ← t, ← e, f)
+    tokens_refused t e = rw (← one, ← t, ← e)
 
-    module _ (two : Good ≡ first_fault (token_fields (terminal_count s.grammar) s.tokens)) where
-      pub tree_refused : {byte P : ℕ} {r : Checked} → P ≡ production_count s.grammar → r ≡ first_fault (tree_fields P s.tree) → r ≡ Fault byte → answer 3 byte ≡ first_refusal (image_tests s)
+    module _ (two : Ok tt ≡ first_fault (token_fields (terminal_count s.grammar) s.tokens)) where
+      pub tree_refused : {fault : Fault} {P : ℕ} → P ≡ production_count s.grammar → Err fault ≡ first_fault (tree_fields P s.tree) → answer 3 fault.byte ≡ first_refusal (image_tests s)
       unfolding first_refusal image_tests
-      tree_refused p e f = rw (← one, ← two, ← p, ← e, f)
+      tree_refused p e = rw (← one, ← two, ← p, ← e)
 
-      pub images_passed : Good ≡ first_fault (tree_fields (production_count s.grammar) s.tree) → answer 0 0 ≡ first_refusal (image_tests s)
+      pub images_passed : Ok tt ≡ first_fault (tree_fields (production_count s.grammar) s.tree) → answer 0 0 ≡ first_refusal (image_tests s)
       unfolding first_refusal image_tests
       images_passed three = rw (← one, ← two, ← three)
 
   -- 5 to 11
-  pub walked : (r : Derivation) → derivation_answer r ≡ walk_in s → derivation_answer r ≡ first_refusal (walk_tests s)
+  pub walked : (r : Result (Unit {0}) Refusal) → derivation_answer r ≡ walk_in s → derivation_answer r ≡ first_refusal (walk_tests s)
   unfolding walk_tests
   walked r e = only_walked r ∙ ap (λ (a : Answer). first_refusal (a ∷ [])) e
 

@@ -4,7 +4,7 @@ use Rattle.rules.specs.Limits.{max_depth}
 use Rattle.rules.specs.Derivation.{DerivesWithin}
 use Rattle.rules.specs.Walk.{Answer, answer}
 use Rattle.rules.specs.Verdict.{Verdict}
-use Rattle.fields.specs.declared.Checked.{Checked}
+use Rattle.fields.specs.Fields.{Checked}
 use Rattle.fields.specs.Answers.{checked_number, checked_place}
 use Rattle.fields.specs.Fields.{WellFormed, first_fault}
 use Rattle.fields.specs.Images.{Images}
@@ -13,7 +13,8 @@ use Rattle.grammar_image.specs.GrammarImage.{grammar_fields}
 use Rattle.token_image.specs.TokenImage.{tokens_of, token_fields}
 use Rattle.tree_image.specs.TreeImage.{node_count, nodes_of, tree_fields}
 use Rattle.derive.specs.Images.{walk_in}
-use Rattle.judge.specs.declared.Answer.{Answer as AnswerGiven}
+use Rattle.std.specs.Prelude.{Result, Ok, Err}
+use Rattle.judge.specs.Refusals.{Refusal, refusal_answer}
 
 -- "two lent lists of 32-bit numbers": what they hold
 pub record Lists : Type 0 where
@@ -34,9 +35,10 @@ entries sets indentations = record { sets = sets; indentations = indentations }
 abbrev pub entries_of : Lists → Entries
 entries_of l = entries (length l.sets) (length l.indentations)
 
--- the number and the place that the check gives
-abbrev pub given : AnswerGiven → Answer
-given r = answer r.number r.place
+-- the number and the place of what the check gives
+abbrev pub given : {A : Type 0} → Result A Refusal → Answer
+given (Ok accepted) = answer 0 0
+given (Err refusal) = refusal_answer refusal
 
 -- 1 to 3: the check of an image
 abbrev pub checked : ℕ → Checked → Answer

@@ -2,3 +2,4 @@
 pub mod Judged
 pub mod Parts
 pub mod Sheets
+pub mod Refusals

@@ -2,162 +2,163 @@
 // indentation of every node written to two lent lists.
 #![tactic(auto)]
 
-ghost use Rattle.std.specs.Prelude.{◌≡◌};
+ghost use Rattle.std.specs.Prelude.{◌≡◌, IfOk};
 ghost use Rattle.fields.specs.Images.{images};
-ghost use Rattle.images.specs.Formed.{Formed};
+ghost use Rattle.images.specs.Held.{images_of};
 ghost use Rattle.judge.specs.Judged.{Judged, lists, entries, given, tests, first_refusal, derivation};
-ghost use Rattle.judge.specs.Parts.{image_tests, room_tests, walk_tests};
+ghost use Rattle.judge.specs.Parts.{image_tests, room_tests};
+ghost use Rattle.judge.specs.Refusals.{refusal_answer};
+ghost use Rattle.judge.specs.declared.Refusal.TheVariants.{Derivation};
 
-use derive::{Derivation, derive};
-use fields::Checked;
+use derive::derive;
+use fields::Fault;
 use grammar_image::{check_grammar, counts_at};
+use images::{Formed, FormedTree};
 use layout::highest_empty;
 use token_image::check_tokens;
-use tree_image::{check_tree, node_count};
+use tree_image::check_tree;
 
-// What the check answers: document 01's number and place.
-#[derive(Clone, Copy)]
-pub struct Answer {
-    pub number: u8,
-    pub place: u32,
+// Why a tree is not accepted: document 01's refusals, each with its place.
+#[derive(Clone, Copy, Debug, PartialEq, Eq)]
+pub enum Refusal {
+    // The grammar image is at fault.
+    Grammar(Fault),
+    // The token image is.
+    Tokens(Fault),
+    // The tree image is.
+    Tree(Fault),
+    // A list is too short: the entries needed.
+    Room(u32),
+    // The nodes do not derive the tokens.
+    Derivation(derive::Refusal),
+    // The root's set is empty: the highest-numbered node whose set is.
+    Empty(u16),
 }
 
-// The first refusal among 1 to 3; number 0 where there is none.
-fn image_refusal(grammar: &[u8], tokens: &[u8], tree: &[u8]) -> Answer
-    ensures { given result
-        ≡ first_refusal (image_tests (images grammar.now tokens.now tree.now)) }
+impl Refusal {
+    // The refusal's number.
+    pub fn number(self) -> u8
+        ensures { result ≡ (refusal_answer self).number }
+    {
+        match self {
+            Refusal::Grammar(_) => 1,
+            Refusal::Tokens(_) => 2,
+            Refusal::Tree(_) => 3,
+            Refusal::Room(_) => 4,
+            Refusal::Derivation(refusal) => refusal.number(),
+            Refusal::Empty(_) => 12,
+        }
+    }
+
+    // The refusal's place.
+    pub fn place(self) -> u32
+        ensures { result ≡ (refusal_answer self).place }
+    {
+        match self {
+            Refusal::Grammar(fault) => fault.byte,
+            Refusal::Tokens(fault) => fault.byte,
+            Refusal::Tree(fault) => fault.byte,
+            Refusal::Room(needed) => needed,
+            Refusal::Derivation(refusal) => u32::from(refusal.place()),
+            Refusal::Empty(node) => u32::from(node),
+        }
+    }
+}
+
+impl From<derive::Refusal> for Refusal {
+    ghost from_gives = { λ refusal r. r ≡ Derivation refusal };
+
+    fn from(refusal: derive::Refusal) -> Refusal {
+        Refusal::Derivation(refusal)
+    }
+}
+
+// The three images, where none of the tests 1 to 3 refuses.
+fn formed<'a>(grammar: &'a [u8], tokens: &'a [u8], tree: &'a [u8]) -> Result<Formed<'a>, Refusal>
+    ensures answer { given result ≡ first_refusal (image_tests (images grammar.now tokens.now tree.now)) }
+    ensures images { IfOk result (λ f. images_of f ≡ images grammar.now tokens.now tree.now) }
 {
-    let checked = check_grammar(grammar);
-    if let Checked::Fault(byte) = checked {
-        return Answer {
-            number: 1,
-            place: byte,
-        };
+    if let Err(fault) = check_grammar(grammar) {
+        return Err(Refusal::Grammar(fault));
     }
     let counts = counts_at(grammar);
-    let checked = check_tokens(tokens, counts.terminals);
-    if let Checked::Fault(byte) = checked {
-        return Answer {
-            number: 2,
-            place: byte,
-        };
+    if let Err(fault) = check_tokens(tokens, counts.terminals) {
+        return Err(Refusal::Tokens(fault));
     }
-    let checked = check_tree(tree, counts.productions);
-    if let Checked::Fault(byte) = checked {
-        return Answer {
-            number: 3,
-            place: byte,
-        };
+    if let Err(fault) = check_tree(tree, counts.productions) {
+        return Err(Refusal::Tree(fault));
     }
-    Answer {
-        number: 0,
-        place: 0,
-    }
+    let nodes = FormedTree { grammar, tree };
+    Ok(Formed { nodes, tokens })
 }
 
-// Refusal 4 for a tree of so many nodes and lists of so many entries; number 0 where there is room.
-fn room_refusal(nodes: u16, sets: usize, indentations: usize) -> Answer
+// Whether there is room for a tree of so many nodes in lists of so many entries.
+fn room(nodes: u16, sets: usize, indentations: usize) -> Result<(), Refusal>
     ensures { given result ≡ first_refusal (room_tests nodes (entries sets indentations)) }
 {
     let nodes = nodes as usize;
     if sets < 2 * nodes {
-        return Answer {
-            number: 4,
-            place: (2 * nodes) as u32,
-        };
+        return Err(Refusal::Room((2 * nodes) as u32));
     }
     if indentations < nodes {
-        return Answer {
-            number: 4,
-            place: nodes as u32,
-        };
+        return Err(Refusal::Room(nodes as u32));
     }
-    Answer {
-        number: 0,
-        place: 0,
-    }
+    Ok(())
 }
 
-// The first refusal among 5 to 11; number 0 where the nodes derive the tokens.
-fn walk_refusal(grammar: &[u8], tokens: &[u8], tree: &[u8]) -> Answer
-    requires { Formed (images grammar.now tokens.now tree.now) }
-    ensures { given result
-        ≡ first_refusal (walk_tests (images grammar.now tokens.now tree.now)) }
-{
-    match derive(grammar, tokens, tree) {
-        Derivation::Refused(refused) => Answer {
-            number: refused.number(),
-            place: refused.place() as u32,
-        },
-        Derivation::Derived => Answer {
-            number: 0,
-            place: 0,
-        },
-    }
-}
-
-// The first refusal among 1 to 11, for lists of so many entries; number 0 where there is none.
-fn refusal(grammar: &[u8], tokens: &[u8], tree: &[u8], sets: usize, indentations: usize) -> Answer
-    ensures { given result
+// The three images, where none of the tests 1 to 11 refuses, for lists of so many entries.
+fn tested<'a>(
+    grammar: &'a [u8],
+    tokens: &'a [u8],
+    tree: &'a [u8],
+    sets: usize,
+    indentations: usize,
+) -> Result<Formed<'a>, Refusal>
+    ensures answer { given result
         ≡ first_refusal (tests (images grammar.now tokens.now tree.now)
         (entries sets indentations)) }
+    ensures images { IfOk result (λ f. images_of f ≡ images grammar.now tokens.now tree.now) }
 {
-    let of_images = image_refusal(grammar, tokens, tree);
-    if of_images.number != 0 {
-        return of_images;
-    }
-    let of_room = room_refusal(node_count(tree), sets, indentations);
-    if of_room.number != 0 {
-        return of_room;
-    }
-    walk_refusal(grammar, tokens, tree)
+    let formed = formed(grammar, tokens, tree)?;
+    room(formed.nodes.node_count(), sets, indentations)?;
+    derive(&formed)?;
+    Ok(formed)
 }
 
-// Whether the nodes of the tree image derive the tokens, whatever their columns: the refusals 1 to 3
-// and 5 to 11 of the check, with their places, or number 0. No list is lent.
-pub fn check_derivation(grammar: &[u8], tokens: &[u8], tree: &[u8]) -> Answer
+// Whether the nodes of the tree image derive the tokens, whatever their columns: refused by 1 to 3
+// and 5 to 11 of the check, with their places, or derived. No list is lent.
+pub fn check_derivation(grammar: &[u8], tokens: &[u8], tree: &[u8]) -> Result<(), Refusal>
     ensures { given result
         ≡ derivation (images grammar.now tokens.now tree.now) }
 {
-    let faulty = image_refusal(grammar, tokens, tree);
-    if faulty.number != 0 {
-        return faulty;
-    }
-    walk_refusal(grammar, tokens, tree)
+    let formed = formed(grammar, tokens, tree)?;
+    derive(&formed)?;
+    Ok(())
 }
 
 // Whether the nodes of the tree image are a right tree over the tokens, and whether indentations can
-// be given to all of them so that every relation holds. Answer 0: the set of node n stands at 2n and
-// 2n + 1 of `sets` as low and high, its least indentation at n of `indentations`. Answer 12: the sets
-// stand there, and the place is the highest-numbered node whose set is empty. Any other answer leaves
-// both lists as they came.
+// be given to all of them so that every relation holds. Accepted: the set of node n stands at 2n and
+// 2n + 1 of `sets` as low and high, its least indentation at n of `indentations`. Refused as empty: the
+// sets stand there, and the place is the highest-numbered node whose set is empty. Any other refusal
+// leaves both lists as they came.
 pub fn check(
     grammar: &[u8],
     tokens: &[u8],
     tree: &[u8],
     sets: &mut [u32],
     indentations: &mut [u32],
-) -> Answer
+) -> Result<(), Refusal>
     ensures { Judged (images grammar.now tokens.now tree.now)
         (lists sets.old indentations.old)
         (given result)
         (lists sets.new indentations.new) }
 {
-    let first = refusal(grammar, tokens, tree, sets.len(), indentations.len());
-    if first.number != 0 {
-        return first;
-    }
-    let root = set_pass::root(grammar, tokens, tree, sets);
+    let formed = tested(grammar, tokens, tree, sets.len(), indentations.len())?;
+    let root = set_pass::root(&formed, sets);
     if root.high < root.low {
-        let node = highest_empty(sets, node_count(tree));
-        return Answer {
-            number: 12,
-            place: node as u32,
-        };
+        let node = highest_empty(sets, formed.nodes.node_count());
+        return Err(Refusal::Empty(node));
     }
-    indentation_pass::node(grammar, tree, sets, indentations, 0, root.low);
-    Answer {
-        number: 0,
-        place: 0,
-    }
+    indentation_pass::node(&formed.nodes, sets, indentations, 0, root.low);
+    Ok(())
 }

@@ -13,8 +13,7 @@ use borrow.Author.Tests.{le-leb, lt-leb, eq-eqb, ne_eqb, leb-true, eqb-true}
 use Rattle.rules.specs.Limits.{max_nodes, max_tokens}
 use Rattle.fields.specs.Fields.{field_at, Bytes, Field, field, WellFormed, first_fault, list_from, list}
 use Rattle.packers.specs.Packing.{bytes_of, in_turn, into_room, tree_answer, column_fields, past_columns, columns_refusal, token_answer}
-use Rattle.std.specs.Prelude.{Result, Ok, Err, IsErr, IsErrAnd}
-use Rattle.std.proofs.lemmas.Result.{err_from_is_err_and}
+use Rattle.std.specs.Prelude.{Result, Ok, Err}
 use Rattle.fields.specs.Fields.{Checked}
 use Rattle.packers.specs.declared.Refusal.{Refusal}
 use Rattle.packers.specs.declared.Refusal.TheVariants.{Entries, Column, Room}
@@ -187,10 +186,6 @@ image_back image n total size bytes h =
   where
     at : (i : ℕ) → 6 + 2 * (i + 0) ≡ 2 * (i + 3)
     at i = omega arith
-
--- a refusal that `?` hands on is the one that was met
-pub handed : {A : Type 0} {r : Result A Refusal} {e : Refusal} → IsErr r × IsErrAnd r (λ f. f ≡ e) → r ≡ Err e
-handed {r} h = let p = err_from_is_err_and r h.1 in p.1 ∙ ap Err p.2
 
 -- what is found of the columns, before the rest of the answer
 past_fault : (r : Checked) {e : Refusal} → Err e ≡ columns_refusal r → (answer : Packed) → Err e ≡ past_columns r answer

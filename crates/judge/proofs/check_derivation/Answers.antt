@@ -1,17 +1,23 @@
 -- With room for every node no test but those of the images and of the walk refuses.
-use Rattle.std.proofs.Common.{arith}
+use Rattle.std.proofs.Common.{refl, ap, ◌∙◌, Ok, Err}
 use Rattle.fields.specs.Images.{images}
-use Rattle.judge.proofs.Passed.{answered_zero, images_formed}
-use Rattle.judge.proofs.Tests.{images_first, walk_first, room_enough}
+use Rattle.derive.specs.Images.{walk_in}
+use Rattle.judge.specs.Judged.{given}
+use Rattle.fields.proofs.Searching.{handed}
+use Rattle.judge.proofs.Passed.{answered_zero}
+use Rattle.judge.proofs.Tests.{some_number, images_first, walk_first, walked, room_enough}
 use Rattle.judge.proofs.check_derivation.Goals as goal
 
-pub returns-then-faulty-ne0 : goal.returns-then-faulty-ne0
-returns-then-faulty-ne0 c = images_first _ _ c.image_refusal-faulty.ensures (λ e. omega arith)
+pub returns-in_err-formed : goal.returns-in_err-formed
+returns-in_err-formed c = ap given (handed c.from_residual.ensures) ∙ images_first _ _ c.in_err-formed.ensures.answer (some_number _)
 
-pub walk_refusal-requires : goal.walk_refusal-requires
-walk_refusal-requires c = images_formed _ (answered_zero _ c.image_refusal-faulty.ensures (omega arith))
+pub returns-in_err-derive : goal.returns-in_err-derive
+returns-in_err-derive c =
+    ap given (handed c.from_residual-in_err-derive.ensures)
+    ∙ walk_first _ _ (answered_zero _ c.in_ok-formed.ensures.answer refl) (room_enough (images c.args.grammar.now c.args.tokens.now c.args.tree.now))
+    (walked _ (Err c.in_err-derive.field-0.0) (c.in_err-derive.ensures ∙ ap walk_in c.in_ok-formed.ensures.images))
 
 pub returns : goal.returns
 returns c =
-    let passed = answered_zero _ c.image_refusal-faulty.ensures (omega arith) in
-    walk_first _ _ passed (room_enough (images c.args.grammar.now c.args.tokens.now c.args.tree.now)) c.walk_refusal.ensures
+    walk_first _ _ (answered_zero _ c.in_ok-formed.ensures.answer refl) (room_enough (images c.args.grammar.now c.args.tokens.now c.args.tree.now))
+    (walked _ (Ok tt) (c.in_ok-derive.ensures ∙ ap walk_in c.in_ok-formed.ensures.images))

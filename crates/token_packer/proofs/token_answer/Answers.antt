@@ -1,6 +1,7 @@
 -- Each test of the code decides one of the answer's tests.
 use Rattle.std.proofs.Common.{◌∙◌, arith}
-use Rattle.packers.proofs.Packing.{handed, past_good, tokens_unequal, tokens_many, tokens_column, tokens_fitted}
+use Rattle.fields.proofs.Searching.{handed}
+use Rattle.packers.proofs.Packing.{past_good, tokens_unequal, tokens_many, tokens_column, tokens_fitted}
 use Rattle.token_packer.proofs.token_answer.Goals as goal
 
 pub returns-then-count-columns : goal.returns-then-count-columns

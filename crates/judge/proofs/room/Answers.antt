@@ -1,7 +1,7 @@
 -- Each return passes the lists that were tested before it.
 use Rattle.std.proofs.Common.{arith}
 use Rattle.judge.proofs.Tests.{sets_refused, indentations_refused, room_passed}
-use Rattle.judge.proofs.room_refusal.Goals as goal
+use Rattle.judge.proofs.room.Goals as goal
 
 pub returns-then-sets-nodes : goal.returns-then-sets-nodes
 returns-then-sets-nodes c = sets_refused _ _ _ (omega arith)
