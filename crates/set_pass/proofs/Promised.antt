@@ -1,7 +1,5 @@
 -- What the contract of the set pass allows is one outcome: the tree that stands there fixes it.
-use mathlib.Core.Path.{◌≡◌, sym, ◌∙◌}
-use mathlib.Core.List.{List}
-use Prim.Native.Nat.{ℕ}
+use Rattle.std.proofs.Common.{◌≡◌, sym, ◌∙◌, ℕ, List}
 use Rattle.fields.specs.Images.{Images}
 use Rattle.rules.specs.declared.relation.Set.{Set}
 use Rattle.layout.specs.Standing.{SomeTree}

@@ -1,5 +1,5 @@
 -- The steps of the set pass, each a law: what a node's row leaves is its own set, and what a token or a child leaves is met before the rest of the row.
-use Rattle.std.proofs.Common.{◌≡◌, ◌≢◌, refl, sym, ap, ◌∙◌, ℕ, zero, suc, ◌+◌, ◌*◌, ◌<◌, ◌≤◌, List, [], ◌∷◌, length, get_or, length-append, arith}
+use Rattle.std.proofs.Common.{◌≡◌, ◌≢◌, refl, sym, ap, ◌∙◌, ℕ, zero, suc, ◌+◌, ◌*◌, ◌-◌, ◌<◌, ◌≤◌, List, [], ◌∷◌, length, get_or, length-append, arith}
 use Rattle.std.proofs.Math.Dec.{eqb-suc-zero}
 use borrow.Author.Tests.{leb-true}
 use Rattle.fields.specs.Fields.{WellFormed}
@@ -16,7 +16,6 @@ use Rattle.rules.specs.Walk.{no_token}
 use Rattle.rules.proofs.Shapes.{length_sets}
 use Rattle.grammar_image.specs.GrammarImage.{terminal_count, production_count, left_of, first_of, count_of, symbol_at, production_at, ProductionIs, SymbolIs}
 use Rattle.grammar_image.specs.Kinds.{kind_of}
-use Rattle.grammar_image.specs.declared.Kind.{Kind}
 use Rattle.grammar_image.specs.declared.Kind.TheVariants.{Terminal, Nonterminal}
 use Rattle.grammar_image.specs.declared.Production.{Production as ProductionRead}
 use Rattle.grammar_image.specs.declared.Symbol.{Symbol as SymbolRead}
@@ -60,6 +59,15 @@ module _ (s : Images) (formed : Formed s) where
   tokens_fit =
       let header = (formed_parts (token_header s.tokens) (token_records (terminal_count s.grammar) s.tokens) formed.tokens_formed).0 in
       omega (arith, leb-true (token_count s.tokens) max_tokens header.1.0)
+
+-- of the entries from y up to `to` the first is due, whose symbol the reader gives as r
+pub record Due (s : Images) (y to : ℕ) (r : SymbolRead) : Type 0 where
+  pub more : y < to
+  pub symbol : SymbolIs s.grammar y r
+
+-- as those entries yield it
+pub first_due : (s : Images) {y to at behind end : ℕ} {r : SymbolRead} → (end ≡ to) × ((0 < to - y) × (at ≡ y) × (behind ≡ y + 1)) → SymbolIs s.grammar at r → Due s y to r
+first_due s steps symbol = record { more = omega (arith, steps); symbol = rw steps.1.1 at symbol }
 
 module _ (s : Images) where
   -- a tree and a row of the images, opened
@@ -170,12 +178,12 @@ module _ (s : Images) where
   unfolding sets_of
   child_set {n} {old = old} room low high done (node p R) there = set_written (2 * n) (row_sets (production_at s.grammar) unbounded R) old room (done (node p R) there).sets low high
 
-  -- symbol y is due, which the reader gives as `due`
-  module _ {y to n k : ℕ} {due : SymbolRead} (more : y < to) (symbol : SymbolIs s.grammar y due) where
+  -- symbol y is due, which the reader gives as r
+  module _ {y to n k : ℕ} {r : SymbolRead} (due : Due s y to r) where
     -- a terminal: the token that is next
-    module _ (terminal : Terminal ≡ kind_of due.kind) where
+    module _ (terminal : Terminal ≡ kind_of r.kind) where
       first_is_token : (R : Row) → RowIn s (symbols s.grammar y to) n k R → TokenIn (symbols s.grammar (y + 1) to) n k R
-      first_is_token = token_in s.grammar s.tree more symbol (terminal_is due.kind terminal)
+      first_is_token = token_in s.grammar s.tree due.more due.symbol (terminal_is r.kind terminal)
 
       after_token : (R : Row) → TokenIn (symbols s.grammar (y + 1) to) n k R → SomeRow s (symbols s.grammar (y + 1) to) n (k + 1)
       after_token R (token_first rest h at) = record { there = rest; stands = at }
@@ -185,20 +193,20 @@ module _ (s : Images) where
 
       -- so there is a token k
       pub token_within : SomeRow s (symbols s.grammar y to) n k → k < token_count s.tokens
-      token_within r = token_there (first_is_token r.there r.stands)
+      token_within row = token_there (first_is_token row.there row.stands)
 
       -- the rest of the row stands behind it
       pub row_after_token : SomeRow s (symbols s.grammar y to) n k → SomeRow s (symbols s.grammar (y + 1) to) n (k + 1)
-      row_after_token r = after_token r.there (first_is_token r.there r.stands)
+      row_after_token row = after_token row.there (first_is_token row.there row.stands)
 
-      module _ {t : TokenRead} {S left last : Set} {old new : List ℕ} {next : Next} (read : TokenIs s.tokens k t) (leaves : left ≡ meet S (token_leaves unbounded due.relation t.column))
+      module _ {t : TokenRead} {S left last : Set} {old new : List ℕ} {next : Next} (read : TokenIs s.tokens k t) (leaves : left ≡ meet S (token_leaves unbounded r.relation t.column))
           (rest : RowDone (symbols s.grammar (y + 1) to) left n (k + 1) old new last next) where
         first_token : (R : Row) → TokenIn (symbols s.grammar (y + 1) to) n k R → RowPassed s.grammar R (symbols s.grammar y to) S n k old new last next
         unfolding row_set row_sets row_nodes row_tokens
         first_token R (token_first later h at) =
             let below = rest later at in
-            let same : left ≡ meet S (token_leaves unbounded (symbol_at s.grammar y).relation (get_or (tokens_of s.tokens) k no_token).column) = rw (token_of s.tokens k no_token (omega (arith, length_tokens s.tokens)), ← read.column, ← symbol.relation) leaves in
-            rw (row_more (symbol_at s.grammar) y to more) (record {
+            let same : left ≡ meet S (token_leaves unbounded (symbol_at s.grammar y).relation (get_or (tokens_of s.tokens) k no_token).column) = rw (token_of s.tokens k no_token (omega (arith, length_tokens s.tokens)), ← read.column, ← due.symbol.relation) leaves in
+            rw (row_more (symbol_at s.grammar) y to due.more) (record {
               set = below.set ∙ ap (row_set (production_at s.grammar) unbounded later (symbols s.grammar (y + 1) to)) same;
               node = below.node;
               token = omega (arith, below.token);
@@ -210,16 +218,16 @@ module _ (s : Images) where
         token_passed R at = first_token R (first_is_token R at)
 
     -- a nonterminal: the tree that is next
-    module _ (nonterminal : Nonterminal ≡ kind_of due.kind) where
+    module _ (nonterminal : Nonterminal ≡ kind_of r.kind) where
       first_is_child : (R : Row) → RowIn s (symbols s.grammar y to) n k R → ChildIn (symbols s.grammar (y + 1) to) n k R
-      first_is_child = child_in s.grammar s.tree more symbol (nonterminal_is due.kind nonterminal)
+      first_is_child = child_in s.grammar s.tree due.more due.symbol (nonterminal_is r.kind nonterminal)
 
       tree_of : (R : Row) → ChildIn (symbols s.grammar (y + 1) to) n k R → SomeTree s n k
       tree_of R (child_first T rest there at) = record { there = T; stands = there }
 
       -- it stands there
       pub tree_here : SomeRow s (symbols s.grammar y to) n k → SomeTree s n k
-      tree_here r = tree_of r.there (first_is_child r.there r.stands)
+      tree_here row = tree_of row.there (first_is_child row.there row.stands)
 
       module _ {old new : List ℕ} {next : Next} (passed-child : NodeDone n k old new next) where
         after_child : (R : Row) → ChildIn (symbols s.grammar (y + 1) to) n k R → SomeRow s (symbols s.grammar (y + 1) to) (next_node next) (next_token next)
@@ -232,24 +240,24 @@ module _ (s : Images) where
 
         -- the node that comes next is behind it
         pub next_behind : SomeRow s (symbols s.grammar y to) n k → n ≤ next_node next
-        next_behind r = after_node r.there (first_is_child r.there r.stands)
+        next_behind row = after_node row.there (first_is_child row.there row.stands)
 
         -- and the rest of the row stands there
         pub row_after_child : SomeRow s (symbols s.grammar y to) n k → SomeRow s (symbols s.grammar (y + 1) to) (next_node next) (next_token next)
-        row_after_child r = after_child r.there (first_is_child r.there r.stands)
+        row_after_child row = after_child row.there (first_is_child row.there row.stands)
 
         module _ {S below left last : Set} {final : List ℕ} {behind : Next} (room : 2 * node_count s.tree ≤ length old) (here : SetHere n k below)
-            (leaves : left ≡ meet S (child_leaves unbounded due.relation below))
+            (leaves : left ≡ meet S (child_leaves unbounded r.relation below))
             (rest : RowDone (symbols s.grammar (y + 1) to) left (next_node next) (next_token next) new final last behind) where
           first_child : (R : Row) → ChildIn (symbols s.grammar (y + 1) to) n k R → RowPassed s.grammar R (symbols s.grammar y to) S n k old final last behind
           unfolding row_set row_sets row_nodes row_tokens
           first_child R (child_first T later there at) =
               let first = passed-child T there in
               let after = rest later (rw (first.node, first.token) at) in
-              let same : left ≡ meet S (child_leaves unbounded (symbol_at s.grammar y).relation (set_of (production_at s.grammar) unbounded T)) = rw (← here T there, ← symbol.relation) leaves in
+              let same : left ≡ meet S (child_leaves unbounded (symbol_at s.grammar y).relation (set_of (production_at s.grammar) unbounded T)) = rw (← here T there, ← due.symbol.relation) leaves in
               let twice : 2 * next_node next ≡ 2 * n + length (sets_of (production_at s.grammar) unbounded T) = omega (arith, first.node, length_sets (production_at s.grammar) unbounded T) in
               let within : 2 * n ≤ length old = omega (arith, length_nodes s.tree, node_within _ _ _ n k T there) in
-              rw (row_more (symbol_at s.grammar) y to more) (record {
+              rw (row_more (symbol_at s.grammar) y to due.more) (record {
                 set = after.set ∙ ap (row_set (production_at s.grammar) unbounded later (symbols s.grammar (y + 1) to)) same;
                 node = rw length-append (omega (arith, first.node, after.node));
                 token = rw length-append (omega (arith, first.token, after.token));

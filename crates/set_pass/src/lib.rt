@@ -19,6 +19,7 @@ use grammar_image::Kind;
 use images::Formed;
 use layout::{set_at, store};
 use rules::relation::{Set, all, child_leaves, meet, token_leaves};
+use std::ops::Range;
 
 // The root's set. The sets of all nodes are written.
 pub fn root(formed: &Formed, sets: &mut [u32]) -> Set
@@ -39,26 +40,25 @@ fn node(formed: &Formed, sets: &mut [u32], next: Next) -> Next
 {
     let production = formed.nodes.production_of(next.node());
     let first = production.first as u32;
-    let end = first + (production.count as u32);
-    row(formed, sets, first, end, next)
+    row(formed, sets, first..first + (production.count as u32), next)
 }
 
-// Writes the sets of a row: those of its nodes, which the symbols from entry `first` up to `end` name,
-// and then that of the node whose row it is, what they leave of all whole numbers. `parent` is what
-// came next at that node. Returns what comes next behind the row.
+// Writes the sets of a row: those of its nodes, which the symbols of `entries` name, and then that of
+// the node whose row it is, what they leave of all whole numbers. `parent` is what came next at that
+// node. Returns what comes next behind the row.
 #[cycle(node_row)]
-fn row(formed: &Formed, sets: &mut [u32], first: u32, end: u32, parent: Next) -> Next
-    requires row { end ≤ entry_count formed.now.nodes.grammar.now }
+fn row(formed: &Formed, sets: &mut [u32], entries: Range<u32>, parent: Next) -> Next
+    requires row { entries.end ≤ entry_count formed.now.nodes.grammar.now }
     requires parent { next_node parent < node_count formed.now.nodes.tree.now }
-    requires stands { SomeRow (images_of formed.now) (symbols formed.now.nodes.grammar.now first end)
+    requires stands { SomeRow (images_of formed.now) (symbols formed.now.nodes.grammar.now entries.start entries.end)
         (next_node parent + 1) (next_token parent) }
     requires room { 2 * node_count formed.now.nodes.tree.now ≤ length sets.old }
-    ensures { RowSet (images_of formed.now) (symbols formed.now.nodes.grammar.now first end)
+    ensures { RowSet (images_of formed.now) (symbols formed.now.nodes.grammar.now entries.start entries.end)
         parent sets.old sets.new result }
 {
     let mut left = all();
     let mut next = parent.past_node();
-    for y in first..end {
+    for y in entries {
         let symbol = formed.nodes.symbol_at(y);
         match symbol.kind() {
             Kind::Terminal => {

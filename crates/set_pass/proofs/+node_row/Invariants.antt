@@ -1,8 +1,9 @@
 -- A row's children stand behind the row's own node, so twice the nodes that remain falls, with one more for a node.
-use Rattle.std.proofs.Common.{◌≡◌, ℕ, ◌≤◌, ◌+◌, ◌*◌, ◌-◌, List, length}
+use Rattle.std.proofs.Common.{ℕ, ◌≤◌, ◌+◌, ◌*◌, ◌-◌, List}
 use Rattle.rules.specs.Stored.{unbounded}
 use Rattle.rules.specs.Interval.{all_set}
 use Rattle.rules.specs.declared.relation.Set.{Set}
+use Rattle.grammar_image.specs.GrammarImage.{entry_count}
 use Rattle.tree_image.specs.TreeImage.{node_count}
 use Rattle.images.specs.Held.{images_of}
 use Rattle.layout.specs.Standing.{symbols, SomeRow}
@@ -23,9 +24,9 @@ invariant-row-loop-y l =
     let s = images_of l.formed in
     record {
       behind : next_node l.fn.parent + 1 ≤ next_node l.next;
-      length : length l.sets ≡ length l.fn.sets;
-      stands : SomeRow s (symbols s.grammar l.y l.end) (next_node l.next) (next_token l.next);
+      within : l.y-iterator.end ≤ entry_count s.grammar;
+      stands : SomeRow s (symbols s.grammar l.y-iterator.start l.y-iterator.end) (next_node l.next) (next_token l.next);
       gives : (final : List ℕ) (last : Set) (r : Next) →
-          RowDone s (symbols s.grammar l.y l.end) l.left (next_node l.next) (next_token l.next) l.sets final last r →
-          RowDone s (symbols s.grammar l.first l.end) (all_set unbounded) (next_node l.fn.parent + 1) (next_token l.fn.parent) l.fn.sets final last r;
+          RowDone s (symbols s.grammar l.y-iterator.start l.y-iterator.end) l.left (next_node l.next) (next_token l.next) l.sets final last r →
+          RowDone s (symbols s.grammar l.fn.entries.start l.fn.entries.end) (all_set unbounded) (next_node l.fn.parent + 1) (next_token l.fn.parent) l.fn.sets final last r;
     }
