@@ -21,7 +21,10 @@ fn shown_nodes(number: u8, nodes: usize) -> usize
 fn text_fits(count: usize, sets: usize, indentations: usize, room: usize) -> bool
     ensures { result ≡ fits count sets indentations room }
 {
-    count <= NODES as usize && 2 * count <= sets && count <= indentations && 42 + 84 * count <= room
+    count <= usize::from(NODES)
+        && 2 * count <= sets
+        && count <= indentations
+        && 42 + 84 * count <= room
 }
 
 // Puts the text of an answer at the start of `out` and gives its length; bytes past it are unchanged.

@@ -1,6 +1,5 @@
 // A text put into an output, part behind part.
 ghost use Rattle.std.specs.Prelude.{◌≡◌, [], ◌∷◌, ◌++◌, ◌+◌, ◌*◌, ◌≤◌, length};
-ghost use Rattle.rules.specs.Limits.{max_nodes};
 ghost use Rattle.report.specs.Putting.{room, Puts};
 ghost use Rattle.report.specs.Text.{decimal, upper, spaced, line, lines};
 
@@ -74,7 +73,7 @@ impl<'a> Text<'a> {
 
     // The lines of the nodes below `count`.
     pub fn lines(&mut self, count: usize, sets: &[u32], indentations: &[u32])
-        requires entries { (count ≤ max_nodes) × (2 * count ≤ length sets.now) × (count ≤ length indentations.now) }
+        requires entries { (2 * count ≤ length sets.now) × (count ≤ length indentations.now) }
         requires room { 84 * count ≤ room self.old }
         ensures { Puts (lines sets.now indentations.now count) self.old self.new }
     {

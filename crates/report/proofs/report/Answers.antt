@@ -22,7 +22,7 @@ number-requires-2 c =
 pub lines-requires-clause-entries : goal.lines-requires-clause-entries
 lines-requires-clause-entries c =
     let fit = passed _ _ _ _ (sym c.text_fits.ensures ∙ c.if-not-text_fits.false) in
-    (fit.0, fit.1, fit.2)
+    (fit.1, fit.2)
 
 pub lines-requires-clause-room : goal.lines-requires-clause-room
 lines-requires-clause-room c =
