@@ -1,3 +1,5 @@
+pub mod Decimal
+pub mod Lines
 pub mod Printing
 pub mod Promised
 pub mod Putting

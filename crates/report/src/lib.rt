@@ -1,15 +1,13 @@
 // The text that the program prints: number and place of an answer and, on acceptance, one line a node.
 #![tactic(auto)]
 
-mod decimal;
-mod lines;
+mod text;
 
 ghost use Rattle.std.specs.Prelude.{◌≡◌};
 ghost use Rattle.report.specs.Text.{shown, fits, Reported};
 
-use decimal::put_number;
-use lines::put_lines;
 use rules::NODES;
+use text::Text;
 
 // The nodes that have a line: all where the number is that of acceptance, else none.
 fn shown_nodes(number: u8, nodes: usize) -> usize
@@ -23,16 +21,10 @@ fn shown_nodes(number: u8, nodes: usize) -> usize
 fn text_fits(count: usize, sets: usize, indentations: usize, room: usize) -> bool
     ensures { result ≡ fits count sets indentations room }
 {
-    if count > NODES as usize {
-        return false;
-    }
-    if sets < 2 * count {
-        return false;
-    }
-    if indentations < count {
-        return false;
-    }
-    42 + 84 * count <= room
+    count <= usize::from(NODES)
+        && 2 * count <= sets
+        && count <= indentations
+        && 42 + 84 * count <= room
 }
 
 // Puts the text of an answer at the start of `out` and gives its length; bytes past it are unchanged.
@@ -56,7 +48,9 @@ pub fn report(
     if !text_fits(count, sets.len(), indentations.len(), out.len()) {
         return 0;
     }
-    let after_number = put_number(number as u64, b' ', out, 0);
-    let after_place = put_number(place as u64, b'\n', out, after_number);
-    put_lines(count, sets, indentations, out, after_place)
+    let mut text = Text { out, at: 0 };
+    text.number(u64::from(number), b' ');
+    text.number(u64::from(place), b'\n');
+    text.lines(count, sets, indentations);
+    text.at
 }

@@ -1,5 +1,5 @@
 -- The test of the code is the one of the definition.
-use borrow.Author.Tests.{eq-eqb, ne_eqb}
+use Rattle.std.proofs.Common.{eq-eqb, ne_eqb}
 use Rattle.report.specs.Text.{shown}
 use Rattle.report.proofs.shown_nodes.Goals as goal
 
