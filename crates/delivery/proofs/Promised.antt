@@ -1,12 +1,8 @@
 -- What a reader of the cutting may rely on: no byte is lost, three well-formed images one after another are cut into
 -- those three, and 47,133 bytes are one more than these have.
-use mathlib.Core.Path.{◌≡◌, sym, ap, ◌∙◌}
-use mathlib.Core.List.{List, ◌++◌}
-use Prim.Native.Nat.{ℕ, ◌+◌, ◌*◌, ◌≤◌, min}
-use native.Mathlib.Omega.{arith}
-use borrow.Author.Tests.{leb-true, eqb-true}
-use lib.ListN.{length, take, drop, take-append-drop, length-append, get_or-append}
-use lib.Seq.{take_at, drop_at}
+use Rattle.std.proofs.Common.{◌≡◌, sym, ap, ◌∙◌, List, ◌++◌, ℕ, ◌+◌, ◌*◌, ◌≤◌, arith, leb-true, eqb-true, le-ltb, length, take, drop}
+use Rattle.std.proofs.Common.{take-append-drop, length-append, take_at, drop_at}
+use Rattle.std.proofs.Math.ListN.{get_or-append}
 use Rattle.rules.specs.Limits.{max_productions, max_entries, max_tokens, max_nodes}
 use Rattle.fields.specs.Fields.{field_at, WellFormed}
 use Rattle.grammar_image.specs.GrammarImage.{production_count, entry_count, count_fields, offset_fields}
@@ -18,7 +14,6 @@ use Rattle.tree_image.specs.TreeImage.{header_fields as tree_header, records_fie
 use Rattle.fields.proofs.Formed.{formed_parts}
 use Rattle.delivery.specs.Delivery.{image_length, grammar_length, token_length, grammar_in, after_grammar, tokens_in}
 use Rattle.delivery.specs.Delivery.{tree_in}
-use Rattle.delivery.proofs.Lengths.{said}
 
 -- the three parts one after another are the delivery
 pub whole : (delivery : List ℕ) → grammar_in delivery ++ (tokens_in delivery ++ tree_in delivery) ≡ delivery
@@ -38,11 +33,11 @@ field_before image rest at h = rw (get_or-append image rest 0 at (omega arith), 
 
 -- such an image is cut off whole, whatever follows it
 cut : (total : ℕ) (image rest : List ℕ) → Sized total image → image_length (length (image ++ rest)) (total + 2) (field_at (image ++ rest) total) ≡ length image
+unfolding image_length
 cut total image rest s =
-    let field = field_before image rest total s.header ∙ s.says in
     let there = length (image ++ rest) in
-    let whole : min (field_at (image ++ rest) total) there ≡ length image = omega (arith, field, length-append image rest) in
-    sym (said there (total + 2) (field_at (image ++ rest) total) (omega (arith, s.header, length-append image rest))) ∙ whole
+    let header : total + 2 ≤ there = omega (arith, s.header, length-append image rest) in
+    rw (le-ltb there (total + 2) header) (omega (arith, field_before image rest total s.header, s.says, length-append image rest))
 
 module _ (grammar tokens tree : List ℕ) (g : Sized 14 grammar) (t : Sized 4 tokens) where
   grammar_back : grammar_in (grammar ++ (tokens ++ tree)) ≡ grammar

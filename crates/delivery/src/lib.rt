@@ -1,10 +1,10 @@
 // A delivery: grammar, token and tree image one after another, as the program reads them.
 #![tactic(auto)]
 
-ghost use Rattle.std.specs.Prelude.{◌≡◌, ◌≤◌, min, length};
+ghost use Rattle.std.specs.Prelude.{◌≡◌, ◌≤◌, ℕ, length, take, drop};
+ghost use Rattle.std.specs.Fn.{FnReturnsAt};
 ghost use Rattle.judge.specs.Judged.{Judged, lists, given};
-ghost use Rattle.delivery.specs.Delivery.{grammar_length, token_length};
-ghost use Rattle.delivery.specs.Delivery.{grammar_in, after_grammar, tokens_in, tree_in, images_in};
+ghost use Rattle.delivery.specs.Delivery.{image_length, grammar_in, tokens_in, tree_in, images_in};
 
 use judge::{Answer, check};
 
@@ -14,71 +14,54 @@ const GRAMMAR_HEADER: usize = 16;
 // The bytes of a token image's header.
 const TOKEN_HEADER: usize = 6;
 
-// How many of the bytes that are there an image takes whose total-length field says so many: so many,
-// or all where fewer are there.
-fn image_length(there: usize, says: u16) -> usize
-    ensures { result ≡ min says there }
+// Cuts an image off the front: so many bytes as its total-length field says, or all where fewer are there or
+// the header is short.
+fn cut<F: Fn(&[u8]) -> u16>(bytes: &[u8], header: usize, total_length: F) -> (&[u8], &[u8])
+    requires { header ≤ length bytes.now → F.pre total_length bytes }
+    ensures { (says : ℕ)
+        × (header ≤ length bytes.now → FnReturnsAt F.Fn total_length bytes.now says)
+        × (result.0.now ≡ take (image_length (length bytes.now) header says) bytes.now)
+        × (result.1.now ≡ drop (image_length (length bytes.now) header says) bytes.now) }
 {
-    let says = says as usize;
-    if there < says { there } else { says }
+    let there = bytes.len();
+    let length = if there < header {
+        there
+    } else {
+        usize::from(total_length(bytes)).min(there)
+    };
+    bytes.split_at(length)
 }
 
-// How many bytes the grammar image of a delivery takes: all where its header is short.
-fn grammar_length(delivery: &[u8]) -> usize
-    ensures value { result ≡ grammar_length delivery.now }
-    ensures within { result ≤ length delivery.now }
+// The three images of a delivery.
+fn images_in(delivery: &[u8]) -> (&[u8], &[u8], &[u8])
+    ensures grammar { result.0.now ≡ grammar_in delivery.now }
+    ensures tokens { result.1.now ≡ tokens_in delivery.now }
+    ensures tree { result.2.now ≡ tree_in delivery.now }
 {
-    let there = delivery.len();
-    if there < GRAMMAR_HEADER {
-        return there;
-    }
-    image_length(there, grammar_image::total_length(delivery))
-}
-
-// How many bytes the token image takes of what follows the grammar image: all where its header is short.
-fn token_length(rest: &[u8]) -> usize
-    ensures value { result ≡ token_length rest.now }
-    ensures within { result ≤ length rest.now }
-{
-    let remains = rest.len();
-    if remains < TOKEN_HEADER {
-        return remains;
-    }
-    image_length(remains, token_image::total_length(rest))
+    let (grammar, rest) = cut(delivery, GRAMMAR_HEADER, grammar_image::total_length);
+    let (tokens, tree) = cut(rest, TOKEN_HEADER, token_image::total_length);
+    (grammar, tokens, tree)
 }
 
 // The grammar image of a delivery.
 pub fn grammar_in(delivery: &[u8]) -> &[u8]
     ensures { result.now ≡ grammar_in delivery.now }
 {
-    let end = grammar_length(delivery);
-    &delivery[0..end]
-}
-
-// What follows the grammar image.
-fn after_grammar(delivery: &[u8]) -> &[u8]
-    ensures { result.now ≡ after_grammar delivery.now }
-{
-    let start = grammar_length(delivery);
-    &delivery[start..]
+    images_in(delivery).0
 }
 
 // The token image of a delivery.
 pub fn tokens_in(delivery: &[u8]) -> &[u8]
     ensures { result.now ≡ tokens_in delivery.now }
 {
-    let rest = after_grammar(delivery);
-    let end = token_length(rest);
-    &rest[0..end]
+    images_in(delivery).1
 }
 
 // The tree image of a delivery: the rest.
 pub fn tree_in(delivery: &[u8]) -> &[u8]
     ensures { result.now ≡ tree_in delivery.now }
 {
-    let rest = after_grammar(delivery);
-    let start = token_length(rest);
-    &rest[start..]
+    images_in(delivery).2
 }
 
 // The check on the three images of a delivery.
@@ -88,8 +71,6 @@ pub fn check_delivery(delivery: &[u8], sets: &mut [u32], indentations: &mut [u32
         (given result)
         (lists sets.new indentations.new) }
 {
-    let grammar = grammar_in(delivery);
-    let tokens = tokens_in(delivery);
-    let tree = tree_in(delivery);
+    let (grammar, tokens, tree) = images_in(delivery);
     check(grammar, tokens, tree, sets, indentations)
 }

@@ -1,9 +1,6 @@
--- What reading standard input gives.
-use Rattle.std.specs.Prelude.{ℕ, ◌≤◌}
-use Rattle.pravisondo.specs.declared.input.Input.{Input}
-use Rattle.pravisondo.specs.declared.input.Input.TheVariants.{Bytes, Failed}
+-- What reading the input gives.
+use Rattle.std.specs.Prelude.{ℕ, ◌≤◌, Result, IfOk}
 
 -- so many bytes were read, at most n
-unfoldable pub Within : Input → ℕ → Type 0
-Within (Bytes k) n = k ≤ n
-Within Failed n = Unit {0}
+abbrev pub Within : {E : Type 0} → Result ℕ E → ℕ → Type 0
+Within r n = IfOk r (λ k. k ≤ n)

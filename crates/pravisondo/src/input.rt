@@ -1,41 +1,25 @@
-// Standard input.
-ghost use Rattle.std.specs.Prelude.{◌≤◌, length};
+// The input.
+ghost use Rattle.std.specs.Prelude.{IfOk, ◌<◌, length, take};
+ghost use Rattle.std.specs.Io.KnownBytes.{Consumes, IsAtEnd};
 ghost use Rattle.pravisondo.specs.Input.{Within};
 
-use std::io::{Read, Stdin};
+use std::io;
+use std::io::Read;
 
-// What reading gives: so many bytes, or nothing where a read failed.
-#[derive(Clone, Copy)]
-pub enum Input {
-    Bytes(usize),
-    Failed,
-}
-
-// One read: how many bytes came, 0 at the end of the input.
-fn read_some(stdin: &mut Stdin, bytes: &mut [u8]) -> Input
-    ensures { Within result (length bytes.new) }
-{
-    match stdin.read(bytes) {
-        Ok(n) => Input::Bytes(n),
-        Err(_) => Input::Failed,
-    }
-}
-
-// Reads until `bytes` is full or the input ends. A read that fails makes the whole input worthless:
-// the bytes before it would be judged as if they were all.
-pub fn read(stdin: &mut Stdin, bytes: &mut [u8]) -> Input
-    ensures { Within result (length bytes.new) }
+// Reads until `bytes` is full or the input ends, and returns how many bytes came. A read that fails makes the
+// whole input worthless: the bytes before it would be judged as if they were all.
+pub fn read<R: Read>(input: &mut R, bytes: &mut [u8]) -> io::Result<usize>
+    ensures within { Within result (length bytes.new) }
+    ensures came { IfOk result (λ n. Consumes (R.remaining input.old) (R.remaining input.new) (take n bytes.new)) }
+    ensures whole { IfOk result (λ n. n < length bytes.new → IsAtEnd (R.remaining input.new)) }
 {
     let mut done = 0;
     while done < bytes.len() {
-        let came = read_some(stdin, &mut bytes[done..]);
-        let Input::Bytes(n) = came else {
-            return Input::Failed;
-        };
-        if n == 0 {
-            return Input::Bytes(done);
+        let came = input.read(&mut bytes[done..])?;
+        if came == 0 {
+            break;
         }
-        done += n;
+        done += came;
     }
-    Input::Bytes(done)
+    Ok(done)
 }

@@ -4,7 +4,6 @@
 mod input;
 
 use delivery::{check_delivery, tree_in};
-use input::Input;
 use report::report;
 use tree_image::node_count;
 
@@ -39,7 +38,7 @@ fn answer(rt: &(impl Print + Eprint), delivery: &[u8]) {
         &indentations,
         &mut text,
     );
-    if rt.write_all(&text[0..length]).is_err() {
+    if rt.write_all(&text[..length]).is_err() {
         complain(rt, "pravisondo: standard output cannot be written");
     }
 }
@@ -52,7 +51,7 @@ fn complain(rt: &impl Eprint, line: &str) {
 fn main(rt: HostRuntime) {
     let mut bytes = [0u8; DELIVERY];
     match input::read(&mut rt.stdin(), &mut bytes) {
-        Input::Bytes(n) => answer(&rt, &bytes[0..n]),
-        Input::Failed => complain(&rt, "pravisondo: standard input cannot be read"),
+        Ok(n) => answer(&rt, &bytes[..n]),
+        Err(_) => complain(&rt, "pravisondo: standard input cannot be read"),
     }
 }

@@ -1,6 +1,6 @@
 -- the nodes are counted in a tree image that is well formed, because it was accepted, and the text that is written is a part of the list that it was put
 -- into
-use Rattle.std.proofs.Common.{arith}
+use Rattle.std.proofs.Common.{sym, length-take-le}
 use Rattle.tree_image.proofs.Within.{header_within}
 use Rattle.judge.proofs.Demands.{accepted_only_if}
 use Rattle.report.proofs.Promised.{within}
@@ -12,4 +12,4 @@ node_count-requires g c =
     rw c.tree_in.ensures (header_within _ _ fits.tree_formed)
 
 pub slice_bounds-write_all-end : goal.slice_bounds-write_all-end
-slice_bounds-write_all-end g c = omega (arith, within c.report-length.ensures, c.report-length.auto.out)
+slice_bounds-write_all-end g c = sym (length-take-le _ _ (within c.report-length.ensures))
