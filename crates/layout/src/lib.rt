@@ -36,11 +36,11 @@ pub fn highest_empty(sets: &[u32], count: u16) -> u16
     requires { 2 * count ≤ length sets.now }
     ensures { result ≡ highest_empty sets.now count }
 {
-    for n in (0..count).rev() {
-        let set = set_at(sets, n);
-        if set.high < set.low {
-            return n;
-        }
-    }
-    0
+    (0..count)
+        .rev()
+        .find(|&n| {
+            let set = set_at(sets, n);
+            set.high < set.low
+        })
+        .unwrap_or(0)
 }

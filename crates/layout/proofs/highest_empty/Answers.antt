@@ -1,12 +1,11 @@
-use Rattle.std.proofs.Common.{◌∙◌, arith}
-use Rattle.layout.proofs.HighestEmpty.{highest_here, highest_before, highest_none}
+use Rattle.std.proofs.Common.{rules, tests, arith, ap, ◌∙◌, ℕ}
+use Rattle.std.specs.declared.ops.Range.{Range}
+use Rattle.layout.proofs.HighestEmpty.{highest_found}
 use Rattle.layout.proofs.highest_empty.Goals as goal
 
-pub returns-then-set : goal.returns-then-set
-returns-then-set c = highest_here _ _ _ (omega arith) (omega arith) ∙ c.loop-n.invariant
-
-pub loop-n-preserved : goal.loop-n-preserved
-loop-n-preserved c = highest_before _ _ _ (omega arith) (omega arith) ∙ c.loop-n.invariant
-
 pub returns : goal.returns
-returns c = highest_none _ _ (omega arith) ∙ c.loop-n.invariant
+returns c =
+    let start = ap (λ (r : Range ℕ). r.start) c.rev.ensures.source in
+    let end = ap (λ (r : Range ℕ). r.end) c.rev.ensures.source in
+    c.unwrap_or.ensures
+    ∙ highest_found c.args.sets.now _ (λ n q k. search (rules, tests)) (λ n q k. search (rules, tests)) c.args.count _ _ c.find.result c.find.ensures.ran start (omega (arith, end))
