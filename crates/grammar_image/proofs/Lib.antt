@@ -1,4 +1,4 @@
-mod Entries
+mod Bounds
 mod Over
 pub mod Promised
 mod Ranges

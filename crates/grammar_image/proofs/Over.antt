@@ -1,10 +1,5 @@
 -- A symbol entry that breaks its rules by nothing keeps them.
-use mathlib.Core.Path.{◌≡◌}
-use mathlib.Core.List.{List}
-use Prim.Native.Nat.{ℕ, zero, suc, ◌+◌, ◌<◌, ◌≤◌, ◌/◌, ◌%◌}
-use native.Mathlib.Omega.{arith}
-use borrow.Author.Tests.{le-leb, lt-ltb, ne_eqb}
-use lib.ListN.{get_or}
+use Rattle.std.proofs.Common.{◌≡◌, ℕ, zero, suc, ◌+◌, ◌<◌, ◌≤◌, ◌/◌, ◌%◌, List, get_or, le-leb, lt-ltb, ne_eqb, arith}
 use Rattle.fields.specs.Fields.{field_at, Bytes, WellFormed}
 use Rattle.grammar_image.specs.GrammarImage.{terminal_count, nonterminal_count, entry_byte, number_bound, symbol_at, symbol_fields}
 

@@ -1,7 +1,5 @@
 -- Two outcomes that the contract of a reader allows are equal, field by field.
-use mathlib.Core.Path.{◌≡◌}
-use mathlib.Core.List.{List}
-use Prim.Native.Nat.{ℕ}
+use Rattle.std.proofs.Common.{◌≡◌, ℕ, List}
 use Rattle.grammar_image.specs.GrammarImage.{Counted, ProductionIs, SymbolIs}
 use Rattle.grammar_image.specs.declared.Counts.{Counts}
 use Rattle.grammar_image.specs.declared.Production.{Production}

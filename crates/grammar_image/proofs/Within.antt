@@ -1,10 +1,5 @@
 -- Where the header and the records of a well-formed grammar image lie: what its readers ask for.
-use mathlib.Core.List.{List, ◌++◌}
-use Prim.Native.Nat.{ℕ, ◌+◌, ◌*◌, ◌<◌, ◌≤◌}
-use native.Mathlib.Omega.{arith}
-use borrow.Author.Tests.{eqb-true, leb-true}
-use lib.Dec.{leb}
-use lib.ListN.{length}
+use Rattle.std.proofs.Common.{ℕ, ◌+◌, ◌*◌, ◌<◌, ◌≤◌, List, ◌++◌, length, leb, leb-true, eqb-true, arith}
 use Rattle.rules.specs.Limits.{max_productions, max_entries, max_row}
 use Rattle.fields.specs.Fields.{field_at, WellFormed, each}
 use Rattle.grammar_image.specs.GrammarImage.{production_count, entry_count, entry_byte, first_of, count_of, starts_at}

@@ -4,13 +4,12 @@
 ghost use Rattle.std.specs.Prelude.{◌≡◌, ◌+◌, ◌*◌, ◌<◌, ◌≤◌, ◌++◌, length, get_or, IfOk, IfErr, Err};
 ghost use Rattle.rules.specs.Limits.{max_entries, max_productions};
 ghost use Rattle.fields.specs.Fields.{field_at, Bytes, each, each_from, WellFormed, first_fault, nowhere};
-ghost use Rattle.grammar_image.specs.GrammarImage.{production_count, entry_count, entry_byte, starts_at};
-ghost use Rattle.grammar_image.specs.Kinds.{kind_of, bound_of};
 ghost use Rattle.grammar_image.specs.GrammarImage.{Counted, ProductionIs, SymbolIs};
-ghost use Rattle.grammar_image.specs.Headers.{counted_prop};
-ghost use Rattle.grammar_image.specs.GrammarImage.{count_fields, offset_fields, production_fields};
-ghost use Rattle.grammar_image.specs.GrammarImage.{productions_fields};
+ghost use Rattle.grammar_image.specs.GrammarImage.{production_count, entry_count, entry_byte, starts_at};
+ghost use Rattle.grammar_image.specs.GrammarImage.{count_fields, offset_fields, production_fields, productions_fields};
 ghost use Rattle.grammar_image.specs.GrammarImage.{symbol_fields, symbols_fields, grammar_fields};
+ghost use Rattle.grammar_image.specs.Headers.{counted_prop};
+ghost use Rattle.grammar_image.specs.Kinds.{kind_of, bound_of};
 
 use fields::{Fault, byte_at, field_at};
 use rules::{ENTRIES, NONTERMINALS, PRODUCTIONS, ROW, TERMINALS};
@@ -159,7 +158,9 @@ impl<'a> Header<'a> {
     {
         let length = image.len();
         if length < 16 {
-            return Err(Fault { byte: length as u32 });
+            return Err(Fault {
+                byte: length as u32,
+            });
         }
         Ok(Header {
             image,
@@ -207,7 +208,9 @@ impl<'a> Header<'a> {
             return Err(Fault { byte: 12 });
         }
         let total = field_at(self.image, 14);
-        if u32::from(total) != self.entry_byte(self.counts.entries) || usize::from(total) != self.image.len() {
+        if u32::from(total) != self.entry_byte(self.counts.entries)
+            || usize::from(total) != self.image.len()
+        {
             return Err(Fault { byte: 14 });
         }
         Ok(())
@@ -343,11 +346,8 @@ impl Records<'_> {
 
     // The records' fields: first the productions', then the symbols'.
     fn check(&self) -> Result<(), Fault>
-        ensures
-        {
-            result ≡ first_fault
-                (productions_fields self.now.header.image.now ++ symbols_fields self.now.header.image.now)
-        }
+        ensures { result ≡ first_fault
+            (productions_fields self.now.header.image.now ++ symbols_fields self.now.header.image.now) }
     {
         self.check_productions()?;
         self.check_symbols()

@@ -1,7 +1,6 @@
 -- The second part is searched where the first is good.
-use Rattle.std.proofs.Common.{◌≡◌, List, ℕ, ◌++◌, ◌∙◌, ◌≤◌}
+use Rattle.std.proofs.Common.{◌++◌, ◌∙◌}
 use Rattle.grammar_image.specs.GrammarImage.{count_fields, offset_fields, productions_fields, symbols_fields, grammar_fields}
-use Rattle.fields.specs.Fields.{WellFormed}
 use Rattle.fields.proofs.Formed.{formed_parts}
 use Rattle.fields.proofs.Promised.{good_well_formed}
 use Rattle.fields.proofs.Searching.{then_good, then_fault, handed}

@@ -1,17 +1,8 @@
 -- Each field is read at its byte.
-use Rattle.std.proofs.Common.{ℕ, ◌+◌, get_or, ◌∙◌, ap}
-use Rattle.fields.specs.Fields.{field_at}
+use Rattle.std.proofs.Common.{rules}
 use Rattle.grammar_image.specs.GrammarImage.{symbol_at}
-use Rattle.grammar_image.proofs.Entries.{at_entry}
 use Rattle.grammar_image.proofs.symbol_at.Goals as goal
 
 pub returns : goal.returns
 unfolding symbol_at
-returns c =
-    let image = c.args.image.now in
-    let entry = at_entry image c.args.y (c.from.ensures ∙ c.field_at.ensures) in
-    record {
-      kind = c.byte_at.ensures ∙ ap (λ (at : ℕ). get_or image at 0) entry;
-      relation = c.byte_at-2.ensures ∙ ap (λ (at : ℕ). get_or image (at + 1) 0) entry;
-      number = c.field_at-2.ensures ∙ ap (λ (at : ℕ). field_at image (at + 2)) entry;
-    }
+returns c = search rules

@@ -18,7 +18,7 @@ unfolding offset_fields
 returns-then-from-entry_byte-2 c =
     pass _ _ (omega tests)
     (pass _ _ (omega tests)
-      (elim c.then-from-entry_byte-2.branch [ other_end w ↦ fail _ _ (omega tests) refl | other_length w ↦ pass _ _ (omega tests) (fail _ _ (omega tests) refl) ]))
+    (elim c.then-from-entry_byte-2.branch [ other_end w ↦ fail _ _ (omega tests) refl | other_length w ↦ pass _ _ (omega tests) (fail _ _ (omega tests) refl) ]))
 
 pub returns : goal.returns
 unfolding offset_fields

@@ -1,6 +1,4 @@
-use Rattle.std.proofs.Common.{◌≡◌, ℕ, zero, suc, ◌+◌, ◌*◌, ◌-◌, ◌≤◌, ◌<◌, Bool, true, not, List, length, get_or, refl, sym, ap, ◌∙◌, add-one, arith}
-use borrow.Author.Tests.{leb-true}
-use lib.Dec.{leb}
+use Rattle.std.proofs.Common.{◌≡◌, ℕ, zero, suc, ◌+◌, ◌*◌, ◌-◌, ◌≤◌, ◌<◌, Bool, true, not, List, length, get_or, refl, sym, ap, ◌∙◌, add-one, arith, leb, leb-true}
 use Rattle.rules.specs.Limits.{max_row}
 use Rattle.fields.specs.Fields.{fault_at, each, each_from, first_fault, nowhere}
 use Rattle.grammar_image.specs.GrammarImage.{entry_count, production_count, count_of, starts_at, production_fields, productions_fields}

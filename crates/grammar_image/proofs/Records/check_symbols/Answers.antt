@@ -1,4 +1,4 @@
-use Rattle.std.proofs.Common.{◌≡◌, ℕ, zero, suc, ◌+◌, ◌*◌, ◌-◌, ◌<◌, not, List, length, get_or, refl, sym, ap, ◌∙◌, arith}
+use Rattle.std.proofs.Common.{◌≡◌, ℕ, zero, suc, ◌+◌, ◌-◌, ◌<◌, not, List, length, get_or, refl, sym, ap, ◌∙◌, arith}
 use Rattle.fields.specs.Fields.{fault_at, each_from, first_fault, nowhere}
 use Rattle.grammar_image.specs.GrammarImage.{entry_count, entry_byte, symbol_fields, symbols_fields}
 use Rattle.fields.proofs.Promised.{search_behind}
@@ -49,5 +49,5 @@ returns-in-search c =
 pub returns : goal.returns
 returns c =
     let image = c.args.self.now.header.image.now in
-    ap fault_at (ap (λ (n : ℕ). n + c.loop-f.f) c.entry_byte.ensures ∙ byte_of image _ _ c.loop-f-test.true)
+    ap fault_at (omega (arith, c.entry_byte.ensures, byte_of image c.loop-y.y c.loop-f.f c.loop-f-test.true))
     ∙ sym (failed (symbol_fields image) c.args.self.now.header.counts.entries 3 (three image) c.loop-y.y c.loop-f.f _ c.loop-f-test.true c.symbol_keeps.ensures (ap not c.if-not-symbol_keeps.true) c.loop-f.invariant)

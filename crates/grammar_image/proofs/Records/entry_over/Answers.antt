@@ -1,6 +1,5 @@
 -- Each part of the sum is 0 where its field keeps its rule.
-use Rattle.std.proofs.Common.{◌≡◌, ℕ, ◌+◌, ◌<◌, ◌∙◌, ap, arith, leb, Bool, true, false, refl}
-use Rattle.std.proofs.lemmas.Bool.Decides.{nat_tests}
+use Rattle.std.proofs.Common.{◌≡◌, ℕ, ◌+◌, ◌<◌, ◌∙◌, ap, arith, leb, Bool, true, false, refl, leb-false}
 use mir.Val.{bool_byte}
 use Rattle.fields.specs.Fields.{field_at}
 use Rattle.grammar_image.proofs.Over.{entry_formed}
@@ -13,7 +12,7 @@ below number limit n z e = by (leb limit number) refl e
   where
     by : (b : Bool) → leb limit number ≡ b → n ≡ bool_byte b → number < limit
     by true t e = absurd (omega arith)
-    by false t e = grind (arith, nat_tests)
+    by false t e = leb-false limit number t
 
 pub returns-clause-good : goal.returns-clause-good
 returns-clause-good c = λ none.

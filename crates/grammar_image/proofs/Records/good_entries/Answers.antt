@@ -1,6 +1,5 @@
 -- Sixteen entries are passed where their sum is 0.
-use Rattle.std.proofs.Common.{◌≡◌, ◌+◌, ◌*◌, arith}
-use native.Mathlib.Nat.{zero-add}
+use Rattle.std.proofs.Common.{◌≡◌, ◌+◌, ◌*◌, zero-add, arith}
 use Rattle.fields.specs.Fields.{each_from, WellFormed}
 use Rattle.fields.proofs.Formed.{formed_more}
 use Rattle.grammar_image.specs.GrammarImage.{symbol_fields}

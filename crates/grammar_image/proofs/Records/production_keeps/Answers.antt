@@ -1,6 +1,5 @@
 -- Each arm tests the field that it stands for.
-use Rattle.std.proofs.Common.{◌≡◌, ℕ, ◌+◌, true, false, arith, leb, ltb, eqb}
-use mathlib.Core.Path.{ap₂}
+use Rattle.std.proofs.Common.{◌≡◌, true, false, arith, leb, ltb, eqb, ap₂}
 use Rattle.rules.specs.Limits.{max_row}
 use Rattle.grammar_image.specs.GrammarImage.{count_of, production_fields}
 use Rattle.fields.proofs.Searching.{tests}
@@ -25,7 +24,7 @@ returns-then-production-le-ROW c =
     let which : a.f ≡ 2 = omega arith in
     let count = c.production_at-production.ensures.count in
     let small : leb (count_of a.self.now.header.image.now a.p) max_row ≡ true = omega tests in
-    rw (which, small) (ap₂ leb (ap₂ (λ (m n : ℕ). m + n) c.requires.starts.0 count) a.self.now.header.counted.entries)
+    rw (which, small) (ap₂ leb (omega (arith, c.requires.starts.0, count)) a.self.now.header.counted.entries)
 
 pub returns-else-production-le-ROW : goal.returns-else-production-le-ROW
 unfolding production_fields

@@ -1,9 +1,8 @@
 -- Each arm tests the field that it stands for.
-use Rattle.std.proofs.Common.{◌≡◌, ℕ, ◌∙◌, ap, arith, leb, ltb}
-use mathlib.Core.Path.{ap₂}
-use Rattle.grammar_image.specs.GrammarImage.{SymbolIs, symbol_fields}
+use Rattle.std.proofs.Common.{◌≡◌, ℕ, ◌∙◌, ap, arith, leb, ltb, ap₂}
+use Rattle.grammar_image.specs.GrammarImage.{symbol_fields}
 use Rattle.grammar_image.specs.Kinds.{kind_of, bound_of}
-use Rattle.grammar_image.proofs.Entries.{bound_is}
+use Rattle.grammar_image.proofs.Bounds.{bound_is}
 use Rattle.grammar_image.proofs.Records.symbol_keeps.Goals as goal
 
 pub returns-in-0 : goal.returns-in-0
