@@ -1,9 +1,5 @@
 -- Laws of what n records hold: how many they are, and which one is the i-th.
-use mathlib.Core.Path.{◌≡◌, refl, ap}
-use Prim.Native.Nat.{ℕ, zero, suc, ◌+◌, ◌<◌}
-use native.Mathlib.Nat.{add-zero, add-suc, suc-add}
-use native.Mathlib.Omega.{arith}
-use lib.ListN.{length, get_or}
+use Rattle.std.proofs.Common.{◌≡◌, refl, ap, ℕ, zero, suc, ◌+◌, ◌<◌, add-zero, add-suc, suc-add, arith, length, get_or}
 use Rattle.fields.specs.Fields.{list_from}
 
 pub length_list {ℓ} : {A : Type ℓ} (k n : ℕ) (f : ℕ → A) → length (list_from k n f) ≡ n

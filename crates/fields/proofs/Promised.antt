@@ -1,12 +1,6 @@
 -- What is promised of every check of an image: good exactly on well-formed images, else the first fault; and one
 -- outcome for each input.
-use mathlib.Core.Bool.{Bool, true, false, cond}
-use mathlib.Core.Path.{◌≡◌, refl, sym, ap, ◌∙◌}
-use mathlib.Core.List.{List, [], ◌∷◌, ◌++◌}
-use Prim.Native.Nat.{ℕ, ◌+◌, ◌-◌, ◌≤◌}
-use native.Mathlib.Nat.{zero-add}
-use native.Mathlib.Omega.{arith}
-use Rattle.std.specs.Prelude.{Ok}
+use Rattle.std.proofs.Common.{Bool, true, false, cond, ◌≡◌, refl, sym, ap, ◌∙◌, List, [], ◌∷◌, ◌++◌, ℕ, ◌+◌, ◌-◌, ◌≤◌, zero-add, arith, Ok}
 use Rattle.fields.specs.Answers.{checked_place}
 use Rattle.fields.specs.Fields.{Field, fault_at, each, each_from, first_fault, WellFormed, FirstAt}
 use Rattle.fields.proofs.Formed.{each_more}

@@ -50,7 +50,9 @@ impl Header {
     {
         let length = image.len();
         if length < self.bytes as usize {
-            return Err(Fault { byte: length as u32 });
+            return Err(Fault {
+                byte: length as u32,
+            });
         }
         let count = field_at(image, 0);
         if count < self.least {

@@ -1,10 +1,5 @@
 -- In a well-formed token image no column is above the limit: each token's second field keeps that rule, or says that there is no column.
-use mathlib.Core.Path.{◌≡◌, refl}
-use mathlib.Core.Bool.{Bool, true, false}
-use mathlib.Core.List.{List}
-use Prim.Native.Nat.{ℕ, zero, suc, ◌+◌, ◌<◌, ◌≤◌}
-use native.Mathlib.Omega.{arith}
-use lib.Dec.{leb}
+use Rattle.std.proofs.Common.{◌≡◌, refl, Bool, true, false, List, ℕ, zero, suc, ◌+◌, ◌<◌, ◌≤◌, arith, leb}
 use borrow.Author.Tests.{leb-true, eqb-true}
 use Rattle.rules.specs.Limits.{max_column, column_allowed}
 use Rattle.rules.specs.Grammar.{no_column, ColumnsUpTo}

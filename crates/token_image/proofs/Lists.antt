@@ -1,9 +1,5 @@
 -- The tokens of an image: how many they are, and which one is the k-th.
-use mathlib.Core.Path.{◌≡◌, ap, ◌∙◌}
-use mathlib.Core.List.{List}
-use Prim.Native.Nat.{ℕ, ◌<◌}
-use native.Mathlib.Nat.{zero-add}
-use lib.ListN.{length, get_or}
+use Rattle.std.proofs.Common.{◌≡◌, ap, ◌∙◌, List, ℕ, ◌<◌, zero-add, length, get_or}
 use Rattle.rules.specs.Grammar.{Token}
 use Rattle.token_image.specs.TokenImage.{token_count, token_at, tokens_of}
 use Rattle.fields.proofs.Lists.{length_list, get_d_list}

@@ -1,7 +1,5 @@
 -- Two outcomes that the contract of the reader allows are equal, field by field.
-use mathlib.Core.Path.{◌≡◌}
-use mathlib.Core.List.{List}
-use Prim.Native.Nat.{ℕ}
+use Rattle.std.proofs.Common.{◌≡◌, List, ℕ}
 use Rattle.token_image.specs.TokenImage.{TokenIs}
 use Rattle.token_image.specs.declared.Token.{Token}
 use Rattle.fields.proofs.Promised.{one_result}

@@ -1,11 +1,7 @@
 -- Where the header and the tokens of a well-formed token image lie: what its readers ask for.
-use mathlib.Core.List.{List}
-use Rattle.std.proofs.Common.{◌≡◌}
+use Rattle.std.proofs.Common.{List, ◌≡◌, ℕ, ◌+◌, ◌*◌, ◌<◌, ◌≤◌, arith, length}
 use Rattle.rules.specs.Limits.{max_tokens}
-use Prim.Native.Nat.{ℕ, ◌+◌, ◌*◌, ◌<◌, ◌≤◌}
-use native.Mathlib.Omega.{arith}
 use borrow.Author.Tests.{eqb-true}
-use lib.ListN.{length}
 use Rattle.fields.specs.Fields.{field_at, counted_fields, first_fault, WellFormed}
 use Rattle.token_image.specs.TokenImage.{token_count, header_fields, records_fields, token_fields}
 use Rattle.fields.proofs.Formed.{formed_parts}

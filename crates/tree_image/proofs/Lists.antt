@@ -1,9 +1,5 @@
 -- The nodes of an image: how many they are, and which one is the n-th.
-use mathlib.Core.Path.{◌≡◌, ap, ◌∙◌}
-use mathlib.Core.List.{List}
-use Prim.Native.Nat.{ℕ, ◌<◌}
-use native.Mathlib.Nat.{zero-add}
-use lib.ListN.{length, get_or}
+use Rattle.std.proofs.Common.{◌≡◌, ap, ◌∙◌, List, ℕ, ◌<◌, zero-add, length, get_or}
 use Rattle.tree_image.specs.TreeImage.{node_count, node_at, nodes_of}
 use Rattle.fields.proofs.Lists.{length_list, get_d_list}
 

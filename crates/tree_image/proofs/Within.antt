@@ -1,11 +1,7 @@
 -- Where the header and the nodes of a well-formed tree image lie: what its readers ask for.
-use mathlib.Core.List.{List}
-use Rattle.std.proofs.Common.{◌≡◌, refl}
+use Rattle.std.proofs.Common.{List, ◌≡◌, refl, ℕ, ◌+◌, ◌*◌, ◌<◌, ◌≤◌, arith, length}
 use Rattle.rules.specs.Limits.{max_nodes}
-use Prim.Native.Nat.{ℕ, ◌+◌, ◌*◌, ◌<◌, ◌≤◌}
-use native.Mathlib.Omega.{arith}
 use borrow.Author.Tests.{eqb-true, ltb-true}
-use lib.ListN.{length}
 use Rattle.fields.specs.Fields.{field_at, counted_fields, first_fault, WellFormed}
 use Rattle.tree_image.specs.TreeImage.{node_count, node_at, header_fields, record_fields, records_fields, tree_fields}
 use Rattle.fields.proofs.Formed.{formed_parts, each_formed}

@@ -1,6 +1,5 @@
 -- Each turn takes a field off what is left to be searched.
-use Rattle.std.proofs.Common.{◌≡◌, ℕ, zero, suc, ◌+◌, ◌*◌, ◌-◌, ◌<◌, List, length, get_or, refl, sym, ap, ◌∙◌, arith}
-use mathlib.Core.Bool.{not}
+use Rattle.std.proofs.Common.{◌≡◌, ℕ, zero, suc, ◌+◌, ◌*◌, ◌-◌, ◌<◌, List, length, get_or, refl, sym, ap, ◌∙◌, arith, not}
 use Rattle.fields.specs.Fields.{fault_at, each_from, first_fault, nowhere}
 use Rattle.token_image.specs.TokenImage.{token_count, record_fields, records_fields}
 use Rattle.fields.proofs.Searching.{turn, turned, passed, failed, finished}

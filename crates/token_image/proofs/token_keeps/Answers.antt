@@ -1,6 +1,5 @@
 -- Each arm tests the field that it stands for.
-use Rattle.std.proofs.Common.{◌≡◌, ℕ, ap, ◌∙◌, arith}
-use lib.Dec.{ltb}
+use Rattle.std.proofs.Common.{◌≡◌, ℕ, ap, ◌∙◌, arith, ltb}
 use Rattle.rules.specs.Limits.{column_allowed}
 use Rattle.fields.specs.Fields.{field_at}
 use Rattle.token_image.specs.TokenImage.{record_fields}

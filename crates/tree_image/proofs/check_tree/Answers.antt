@@ -1,5 +1,5 @@
 -- The second part is searched where the first is good.
-use Rattle.std.proofs.Common.{sym, ◌∙◌}
+use Rattle.std.proofs.Common.{◌∙◌}
 use Rattle.tree_image.specs.TreeImage.{header_fields, records_fields, tree_fields}
 use Rattle.fields.proofs.Promised.{good_well_formed}
 use Rattle.fields.proofs.Searching.{then_good, then_fault, handed}
