@@ -6,7 +6,7 @@ ghost use Rattle.std.specs.Fn.{FnReturnsAt};
 ghost use Rattle.judge.specs.Judged.{Judged, lists, given};
 ghost use Rattle.delivery.specs.Delivery.{image_length, grammar_in, tokens_in, tree_in, images_in};
 
-use judge::{Answer, check};
+use judge::{Refusal, check};
 
 // The bytes of a grammar image's header.
 const GRAMMAR_HEADER: usize = 16;
@@ -65,7 +65,11 @@ pub fn tree_in(delivery: &[u8]) -> &[u8]
 }
 
 // The check on the three images of a delivery.
-pub fn check_delivery(delivery: &[u8], sets: &mut [u32], indentations: &mut [u32]) -> Answer
+pub fn check_delivery(
+    delivery: &[u8],
+    sets: &mut [u32],
+    indentations: &mut [u32],
+) -> Result<(), Refusal>
     ensures { Judged (images_in delivery.now)
         (lists sets.old indentations.old)
         (given result)

@@ -13,10 +13,9 @@ ghost use Rattle.judge.specs.Judged.{lists, given, derivation};
 ghost use Rattle.exported.specs.Calls.{Says, SaysAnswer, SaysChecked, SaysPacked};
 ghost use Rattle.exported.specs.Calls.{CheckCalled, TreeCalled, TokensCalled};
 
-use fields::Checked;
+use fields::Fault;
 use grammar_image::check_grammar;
-use judge::{Answer, check, check_derivation};
-use packers::Packed;
+use judge::{Refusal, check, check_derivation};
 use token_image::check_tokens;
 use token_packer::pack_tokens;
 use tree_image::check_tree;
@@ -26,28 +25,37 @@ use tree_packer::pack_tree;
 fn in_one(number: u8, length: u16, place: u32) -> u64
     ensures { Says result number length place }
 {
-    (number as u64) + 256 * (length as u64) + 4294967296 * (place as u64)
+    u64::from(number) + 256 * u64::from(length) + 4294967296 * u64::from(place)
 }
 
 // What a check answers.
-fn answer_in_one(answer: Answer) -> u64
+fn answer_in_one(answer: Result<(), Refusal>) -> u64
     ensures { SaysAnswer (given answer) result }
 {
-    in_one(answer.number, 0, answer.place)
+    match answer {
+        Ok(()) => in_one(0, 0, 0),
+        Err(refusal) => in_one(refusal.number(), 0, refusal.place()),
+    }
 }
 
 // What the check of an image answers, by the number of its refusal.
-fn checked_in_one(checked: Checked, refusal: u8) -> u64
+fn checked_in_one(checked: Result<(), Fault>, refusal: u8) -> u64
     ensures { SaysChecked refusal checked result }
 {
-    in_one(checked.number(refusal), 0, checked.place())
+    match checked {
+        Ok(()) => in_one(0, 0, 0),
+        Err(fault) => in_one(refusal, 0, fault.byte),
+    }
 }
 
 // What a packer answers.
-fn packed_in_one(packed: Packed) -> u64
+fn packed_in_one(packed: Result<u16, packers::Refusal>) -> u64
     ensures { SaysPacked packed result }
 {
-    in_one(packed.number(), packed.length(), packed.place())
+    match packed {
+        Ok(length) => in_one(0, length, 0),
+        Err(refusal) => in_one(refusal.number(), 0, refusal.place()),
+    }
 }
 
 // `judge::check`.

@@ -23,16 +23,14 @@ const TEXT: usize = 344106;
 fn answer(rt: &(impl Print + Eprint), delivery: &[u8]) {
     let mut sets = [0u32; SETS];
     let mut indentations = [0u32; INDENTATIONS];
-    let answer = check_delivery(delivery, &mut sets, &mut indentations);
-    let nodes = if answer.number == 0 {
-        node_count(tree_in(delivery)) as usize
-    } else {
-        0
+    let (number, place, nodes) = match check_delivery(delivery, &mut sets, &mut indentations) {
+        Ok(()) => (0, 0, usize::from(node_count(tree_in(delivery)))),
+        Err(refusal) => (refusal.number(), refusal.place(), 0),
     };
     let mut text = [0u8; TEXT];
     let length = report(
-        answer.number,
-        answer.place,
+        number,
+        place,
         nodes,
         &sets,
         &indentations,
