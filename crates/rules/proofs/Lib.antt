@@ -1,5 +1,4 @@
 -- What is proved of the grammar rule: one tree at most, what each answer of the walk means, what the relations leave, that the computed sets and numbers are the sets and the least indentations.
-pub mod Branches
 pub mod Complete
 pub mod Least
 pub mod Lists

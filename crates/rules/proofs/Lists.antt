@@ -1,10 +1,6 @@
 -- Laws of what is left of a list from an index on, which is how the walk reads its nodes and tokens.
-use mathlib.Core.Path.{◌≡◌, sym, ap, ◌∙◌}
-use mathlib.Core.List.{List, [], ◌∷◌, ◌++◌, append-nil}
-use Prim.Native.Nat.{ℕ, suc, ◌+◌, ◌<◌, ◌≤◌}
-use native.Mathlib.Omega.{arith}
-use lib.ListN.{length, get_or, take, drop, length-drop, length-append, drop_of_length-le}
-use lib.Seq.{drop-cons, drop-drop, drop-append_seam, take_at}
+use Rattle.std.proofs.Common.{◌≡◌, sym, ap, ◌∙◌, List, [], ◌∷◌, ◌++◌, append-nil, ℕ, suc, ◌+◌, ◌<◌, ◌≤◌, arith, length, get_or, take, drop, length-drop, length-append, drop_of_length-le, drop-cons, drop-drop, take_at}
+use Rattle.std.proofs.Math.Seq.{drop-append_seam}
 
 module _ {ℓ} {A : Type ℓ} (l : List A) (n : ℕ) where
   -- what is at the head of the rest is at its index in the list, and the rest goes on behind it

@@ -1,13 +1,5 @@
 -- What each answer of the walk means, for any limit: a tree that the walk ends with is the only one, and a right tree at the head of the lists ends the walk without refusal or with 9.
-use mathlib.Core.Path.{◌≡◌, refl, sym, ap, ◌∙◌}
-use mathlib.Core.Logic.{◌⊎◌, inl, inr}
-use mathlib.Core.Bool.{Bool, true, false, cond}
-use mathlib.Core.List.{List, [], ◌++◌}
-use Prim.Native.Nat.{ℕ, ◌+◌, ◌<◌, ◌≤◌}
-use native.Mathlib.Omega.{arith}
-use lib.Dec.{ltb, eqb}
-use lib.ListN.{length, drop}
-use borrow.Author.Tests.{ltb-true, ltb-false, le-ltb}
+use Rattle.std.proofs.Common.{◌≡◌, refl, sym, ap, ◌∙◌, ◌⊎◌, inl, inr, Bool, true, false, cond, List, [], ◌++◌, ℕ, ◌+◌, ◌<◌, ◌≤◌, arith, ltb, eqb, length, drop, ltb-true, ltb-false, le-ltb}
 use Rattle.rules.specs.Grammar.{Production, Token}
 use Rattle.rules.specs.Derivation.{nodes, tokens, depth, Derives, DerivesWithin}
 use Rattle.rules.specs.Walk.{Answer, answer, Walked, used, refused, node_due, walk_done}

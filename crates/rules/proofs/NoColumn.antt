@@ -1,7 +1,5 @@
 -- A token without a column at = leaves a tree no choice, whatever stands beside it: no number goes with it at its own node.
-use mathlib.Core.Logic.{inl, inr}
-use mathlib.Core.List.{List, [], ◌∷◌}
-use Prim.Native.Nat.{ℕ}
+use Rattle.std.proofs.Common.{inl, inr, List, [], ◌∷◌, ℕ}
 use Rattle.rules.specs.Grammar.{Symbol, Production}
 use Rattle.rules.specs.Tree.{Tree, node, Row, end, token, child}
 use Rattle.rules.specs.Relation.{HoldsToken}

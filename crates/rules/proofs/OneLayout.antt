@@ -1,10 +1,5 @@
 -- A set is stored in one way only: by whether it is empty, all numbers, or has a lowest and a highest one. And two lists that are each nowhere above the other are one.
-use mathlib.Core.Path.{◌≡◌, refl}
-use mathlib.Core.List.{List, [], ◌∷◌}
-use Prim.Native.Nat.{ℕ, zero, suc, ◌+◌, ◌*◌, ◌<◌, ◌≤◌}
-use native.Mathlib.Omega.{arith}
-use lib.ListN.{length, get_or}
-use lib.Seq.{ext_get_or}
+use Rattle.std.proofs.Common.{◌≡◌, refl, List, [], ◌∷◌, ℕ, zero, suc, ◌+◌, ◌*◌, ◌<◌, ◌≤◌, arith, length, get_or, ext_get_or}
 use Rattle.rules.specs.Grammar.{Production}
 use Rattle.rules.specs.Tree.{Tree}
 use Rattle.rules.specs.Choice.{InSet, Least}

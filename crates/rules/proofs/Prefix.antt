@@ -1,13 +1,6 @@
 -- The walk only goes forward. So it ends alike on all lists that share what it looked at: each step up to its end finds there what it found here.
-use mathlib.Core.Path.{◌≡◌, refl}
-use mathlib.Core.Bool.{Bool, true, false, cond}
-use mathlib.Core.List.{List, [], ◌∷◌, ◌++◌}
-use Prim.Native.Nat.{ℕ, zero, suc, ◌<◌}
-use native.Mathlib.Omega.{arith}
-use lib.Dec.{ltb, eqb}
-use lib.ListN.{length, get_or, take, length-append, length-take, get_or-append}
-use lib.Seq.{get_or-take}
-use borrow.Author.Tests.{ltb-true, lt-ltb}
+use Rattle.std.proofs.Common.{◌≡◌, refl, Bool, true, false, cond, List, [], ◌∷◌, ◌++◌, ℕ, zero, suc, ◌<◌, arith, ltb, eqb, length, get_or, take, length-append, length-take, get_or-take, ltb-true, lt-ltb}
+use Rattle.std.proofs.Math.ListN.{get_or-append}
 use Rattle.rules.specs.Grammar.{Symbol, Production, Token}
 use Rattle.rules.specs.Walk.{Answer, answer, Walked, used, refused, and_then, no_token, token_due, node_met, symbol_due, row_due, node_due}
 

@@ -1,8 +1,5 @@
 -- The walk uses all nodes and all tokens exactly if the nodes derive the tokens within the limit, and every other answer says what is wrong.
-use mathlib.Core.Path.{◌≡◌, refl, subst}
-use mathlib.Core.Logic.{◌⊎◌}
-use mathlib.Core.List.{List}
-use Prim.Native.Nat.{ℕ, ◌<◌, ◌≤◌}
+use Rattle.std.proofs.Common.{◌≡◌, refl, subst, ◌⊎◌, List, ℕ, ◌<◌, ◌≤◌}
 use Rattle.rules.specs.Limits.{max_depth}
 use Rattle.rules.specs.Grammar.{Production, Token}
 use Rattle.rules.specs.Derivation.{depth, Derives, DerivesWithin}
@@ -21,10 +18,6 @@ module _ (G : ℕ → Production) (start : ℕ) (ns : List ℕ) (ts : List Token
   -- the number is one of 0, 5, 6, 7, 8, 9, 10 and 11
   pub answers : ((walk G ns ts start).number ≡ 0) ⊎ ((5 ≤ (walk G ns ts start).number) × ((walk G ns ts start).number ≤ 11))
   answers = meant.known
-
-  -- 0 has the place 0
-  pub zero_place : (walk G ns ts start).number ≡ 0 → (walk G ns ts start).place ≡ 0
-  zero_place e = (told e).0
 
   -- 0: the nodes derive the tokens by a tree within the limit
   pub derived : (walk G ns ts start).number ≡ 0 → DerivesWithin max_depth G start ns ts

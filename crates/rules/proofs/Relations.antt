@@ -1,28 +1,21 @@
 -- The laws of the relation step. What stands above knows a relation by these alone.
-use mathlib.Core.Path.{◌≡◌, refl}
-use mathlib.Core.Bool.{Bool, true, false, cond}
-use Prim.Native.Nat.{ℕ, ◌+◌, ◌-◌, ◌<◌, ◌≤◌, max, min}
-use native.Mathlib.Omega.{arith, min_cases}
-use lib.Dec.{ltb, eqb}
-use borrow.Author.Tests.{ltb-true, ltb-false, eqb-true, eqb-false}
+use Rattle.std.proofs.Common.{◌≡◌, cond, ℕ, ◌+◌, ◌-◌, ◌<◌, ◌≤◌, max, min, arith, ltb, eqb, ltb-true, ltb-false, eqb-true}
+use Rattle.std.proofs.lemmas.Bool.{cond_both, eqb-false}
+use native.Mathlib.Omega.{min_cases}
 use Rattle.rules.specs.Grammar.{Token, no_column, HasColumn}
 use Rattle.rules.specs.Relation.{Holds, HoldsToken, rise}
 use Rattle.rules.specs.Interval.{bounds, empty_set, In, all_set, below, leaves, child_leaves, token_leaves, meet, least}
 use Rattle.rules.specs.declared.relation.Set.{Set}
 
 -- what is true by either outcome of a test is true of the value that the test selects
-by_test {ℓ m} : {A : Type ℓ} (P : A → Type m) (b : Bool) {v w : A} → (b ≡ true → P v) → (b ≡ false → P w) → P (cond b v w)
-by_test P true f g = f refl
-by_test P false f g = g refl
+by_less : {A : Type 0} (P : A → Type 0) (a b : ℕ) {v w : A} → (a < b → P v) → (b ≤ a → P w) → P (cond (ltb a b) v w)
+by_less P a b f g = cond_both (ltb a b) _ _ P (λ e. f (ltb-true a b e)) (λ e. g (ltb-false a b e))
 
-by_less {ℓ m} : {A : Type ℓ} (P : A → Type m) (a b : ℕ) {v w : A} → (a < b → P v) → (b ≤ a → P w) → P (cond (ltb a b) v w)
-by_less P a b f g = by_test P (ltb a b) (λ e. f (ltb-true a b e)) (λ e. g (ltb-false a b e))
-
-by_equal {ℓ m} : {A : Type ℓ} (P : A → Type m) (a b : ℕ) {v w : A} → (a ≡ b → P v) → ((a ≡ b → ⊥) → P w) → P (cond (eqb a b) v w)
-by_equal P a b f g = by_test P (eqb a b) (λ e. f (eqb-true a b e)) (λ e. g (eqb-false a b e))
+by_equal : {A : Type 0} (P : A → Type 0) (a b : ℕ) {v w : A} → (a ≡ b → P v) → ((a ≡ b → ⊥) → P w) → P (cond (eqb a b) v w)
+by_equal P a b f g = cond_both (eqb a b) _ _ P (λ e. f (eqb-true a b e)) (λ e. g (eqb-false a b e))
 
 -- the four relations, told apart as the definitions do
-by_relation {ℓ m} : {A : Type ℓ} (P : A → Type m) (r : ℕ) {a b c d : A} →
+by_relation : {A : Type 0} (P : A → Type 0) (r : ℕ) {a b c d : A} →
     (r ≡ 0 → P a) → (r ≡ 1 → P b) → (r ≡ 2 → P c) → ((r ≡ 0 → ⊥) → (r ≡ 1 → ⊥) → (r ≡ 2 → ⊥) → P d) → P (cond (eqb r 0) a (cond (eqb r 1) b (cond (eqb r 2) c d)))
 by_relation P r f g h k = by_equal P r 0 f (λ e. by_equal P r 1 g (λ e'. by_equal P r 2 h (λ e''. k e e' e'')))
 

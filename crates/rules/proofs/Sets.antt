@@ -1,9 +1,6 @@
 -- The computed set of a node is the set of the node: a row's set has just the numbers that every symbol of the row leaves.
 -- Below each of these the least numbers are a choice, and no choice has another number at the node.
-use mathlib.Core.Path.{◌≡◌, refl}
-use mathlib.Core.List.{List, [], ◌∷◌, ◌++◌}
-use Prim.Native.Nat.{ℕ, ◌<◌, ◌≤◌}
-use native.Mathlib.Omega.{arith}
+use Rattle.std.proofs.Common.{◌≡◌, refl, List, [], ◌∷◌, ◌++◌, ℕ, ◌<◌, ◌≤◌, arith}
 use Rattle.rules.specs.Grammar.{Symbol, Production, Token, HasColumn, ColumnsUpTo}
 use Rattle.rules.specs.Tree.{Tree, node, Row, end, token, child}
 use Rattle.rules.specs.Derivation.{Right, RightRow, tokens, row_tokens}

@@ -1,9 +1,5 @@
 -- What a computed set looks like: what a relation leaves of one of four shapes is of one of them again, and so is what is in two such sets.
-use mathlib.Core.Path.{◌≡◌, refl}
-use mathlib.Core.List.{List, [], ◌∷◌, ◌++◌}
-use Prim.Native.Nat.{ℕ, suc, ◌-◌, ◌*◌, ◌<◌, ◌≤◌, max, min}
-use native.Mathlib.Omega.{arith}
-use lib.ListN.{length, length-append}
+use Rattle.std.proofs.Common.{◌≡◌, refl, List, [], ◌∷◌, ◌++◌, ℕ, suc, ◌-◌, ◌*◌, ◌<◌, ◌≤◌, max, min, arith, length, length-append}
 use Rattle.rules.specs.Grammar.{Symbol, Production, Token, no_column, ColumnsUpTo}
 use Rattle.rules.specs.Tree.{Tree, node, Row, end, token, child}
 use Rattle.rules.specs.Derivation.{Right, RightRow, nodes, row_nodes, tokens, row_tokens}

@@ -1,10 +1,6 @@
 -- A walk that is refused has met no right tree at the head of its lists, unless one too deep for it.
 -- It is refused alike on all lists that share what it looked at, so the same is true of these.
-use mathlib.Core.Path.{◌≡◌, refl}
-use mathlib.Core.List.{List}
-use Prim.Native.Nat.{ℕ, suc, ◌<◌}
-use native.Mathlib.Omega.{arith}
-use lib.ListN.{length}
+use Rattle.std.proofs.Common.{◌≡◌, refl, List, ℕ, suc, ◌<◌, arith, length}
 use Rattle.rules.specs.Grammar.{Production, Token}
 use Rattle.rules.specs.Derivation.{depth}
 use Rattle.rules.specs.Walk.{Answer, answer, refused, no_token, node_due}

@@ -1,9 +1,5 @@
 -- What a node or a token that is due gives, by how the tests of document 01 end: the definitions with their tests answered.
-use mathlib.Core.Path.{◌≡◌}
-use mathlib.Core.List.{List}
-use Prim.Native.Nat.{ℕ, suc, ◌<◌, ◌≤◌}
-use lib.ListN.{length, get_or}
-use borrow.Author.Tests.{lt-ltb, le-ltb, eq-eqb, ne_eqb}
+use Rattle.std.proofs.Common.{◌≡◌, List, ℕ, suc, ◌<◌, ◌≤◌, length, get_or, lt-ltb, le-ltb, eq-eqb, ne_eqb}
 use Rattle.rules.specs.Grammar.{Production, Token}
 use Rattle.rules.specs.Walk.{answer, Walked, used, refused, no_token, token_due, node_met}
 

@@ -1,8 +1,5 @@
 -- A tree has one subtree a node, and what is given to a tree's nodes gives each subtree its part: where every relation of the tree holds, so does every relation of each subtree.
-use mathlib.Core.Path.{◌≡◌, refl, ap}
-use mathlib.Core.List.{List, [], ◌∷◌, ◌++◌}
-use Prim.Native.Nat.{ℕ, zero, suc, ◌<◌}
-use lib.ListN.{length, get_or, length-append}
+use Rattle.std.proofs.Common.{◌≡◌, refl, ap, List, [], ◌∷◌, ◌++◌, ℕ, zero, suc, ◌<◌, length, get_or, length-append}
 use Rattle.rules.specs.Grammar.{Symbol, Production}
 use Rattle.rules.specs.Tree.{Tree, node, Row, end, token, child}
 use Rattle.rules.specs.Derivation.{nodes, row_nodes}

@@ -1,15 +1,6 @@
 -- The computed sets and numbers are a verdict, there is no other, and what each verdict says of the trees.
 -- Among the stored sets a walk down from the last node finds the highest-numbered empty one, since the root's is empty.
-use mathlib.Core.Path.{◌≡◌, refl}
-use mathlib.Core.Logic.{◌⊎◌, inl, inr}
-use mathlib.Core.Bool.{Bool, true, false, cond}
-use mathlib.Core.List.{List, []}
-use Prim.Native.Nat.{ℕ, zero, suc, ◌+◌, ◌-◌, ◌*◌, ◌<◌, ◌≤◌}
-use native.Mathlib.Nat.{eq-or-lt_of_le}
-use native.Mathlib.Omega.{arith}
-use lib.Dec.{ltb}
-use lib.ListN.{length, get_or}
-use borrow.Author.Tests.{ltb-true, ltb-false}
+use Rattle.std.proofs.Common.{◌≡◌, refl, ◌⊎◌, inl, inr, Bool, true, false, cond, List, [], ℕ, zero, suc, ◌+◌, ◌-◌, ◌*◌, ◌<◌, ◌≤◌, eq-or-lt_of_le, arith, ltb, length, get_or, ltb-true, ltb-false}
 use Rattle.rules.specs.Grammar.{Production, Token, ColumnsUpTo}
 use Rattle.rules.specs.Tree.{Tree, node}
 use Rattle.rules.specs.Derivation.{tokens, depth, Derives}

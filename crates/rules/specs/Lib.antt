@@ -5,6 +5,7 @@ pub mod Grammar
 pub mod Interval
 pub mod Limits
 pub mod NoColumn
+pub mod Numbers
 pub mod Refusals
 pub mod Relation
 pub mod Stored

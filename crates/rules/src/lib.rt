@@ -37,6 +37,7 @@ pub const NODES: u16 = 4096;
 pub const DEPTH: u16 = 1024;
 
 // Whether a token may have this column, or none.
+#[tactic(auto, unfolding(crate::specs::Limits::column_allowed))]
 pub fn column_allowed(column: u16) -> bool
     ensures { result ≡ column_allowed column }
 {

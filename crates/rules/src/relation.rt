@@ -1,7 +1,8 @@
 // The relation step: what a child leaves its parent, and the least that a parent leaves its child.
 // But for the field rule of the grammar image, no other code looks at a relation's number.
-ghost use Rattle.std.specs.Prelude.{◌≡◌, max, min};
+ghost use Rattle.std.specs.Prelude.{◌≡◌, ℕ, min, ltb};
 ghost use Rattle.rules.specs.Stored.{unbounded};
+ghost use Rattle.rules.specs.Numbers.{StandsFor};
 ghost use Rattle.rules.specs.Interval.{all_set, below as below_of, leaves as leaves_of, child_leaves, token_leaves};
 ghost use Rattle.rules.specs.Interval.{meet as meet_of, least as least_of};
 
@@ -12,10 +13,66 @@ pub const UNBOUNDED: u32 = 4294967295;
 
 // A set of indentations: the whole numbers from low to high, or from low on where high is
 // `UNBOUNDED`. It is empty where high is below low, and then low is 1 and high 0.
-#[derive(Clone, Copy)]
+#[derive(Clone, Copy, Debug, PartialEq, Eq)]
 pub struct Set {
     pub low: u32,
     pub high: u32,
+}
+
+impl Set {
+    // No number.
+    const EMPTY: Set = Set { low: 1, high: 0 };
+
+    // Whether no number is in the set.
+    pub fn is_empty(self) -> bool
+        ensures { result ≡ ltb self.high self.low }
+    {
+        self.high < self.low
+    }
+}
+
+// A relation between a node's indentation and a child's.
+#[derive(Clone, Copy, Debug, PartialEq, Eq)]
+enum Relation {
+    // The child stands at its parent's number.
+    Equal,
+    // Above it.
+    Greater,
+    // At it or above.
+    AtLeast,
+    // Anywhere.
+    Free,
+}
+
+impl From<u8> for Relation {
+    ghost from_gives = { StandsFor };
+
+    fn from(number: u8) -> Self {
+        match number {
+            0 => Relation::Equal,
+            1 => Relation::Greater,
+            2 => Relation::AtLeast,
+            _ => Relation::Free,
+        }
+    }
+}
+
+impl Relation {
+    // What a relation leaves the parent of a child with a set that is not empty.
+    #[tactic(auto, unfolding(crate::specs::Interval::leaves))]
+    fn leaves(self, set: Set) -> Set
+        ensures { (r : ℕ) → StandsFor r self → result ≡ leaves_of unbounded r set }
+    {
+        match self {
+            Relation::Equal => set,
+            Relation::Greater => below(set.high),
+            Relation::AtLeast => Set {
+                low: 0,
+                high: set.high,
+            },
+            Relation::Free => all(),
+        }
+    }
 }
 
 // All whole numbers.
@@ -29,120 +86,71 @@ pub fn all() -> Set
 }
 
 // The numbers that have a greater one up to a high.
+#[tactic(auto, unfolding(crate::specs::Interval::below))]
 fn below(high: u32) -> Set
     ensures { result ≡ below_of unbounded high }
 {
-    if high == UNBOUNDED {
-        return all();
-    }
-    if high == 0 {
-        return Set { low: 1, high: 0 };
-    }
-    Set {
-        low: 0,
-        high: high - 1,
-    }
-}
-
-// What a relation leaves the parent of a child with a set that is not empty.
-fn leaves(relation: u8, set: Set) -> Set
-    ensures { result ≡ leaves_of unbounded relation set }
-{
-    if relation == 0 {
-        return set;
-    }
-    if relation == 1 {
-        return below(set.high);
-    }
-    if relation == 2 {
-        return Set {
+    match high {
+        UNBOUNDED => all(),
+        0 => Set::EMPTY,
+        _ => Set {
             low: 0,
-            high: set.high,
-        };
+            high: high - 1,
+        },
     }
-    all()
 }
 
 // What a child's set leaves its parent.
+#[tactic(auto, unfolding(crate::specs::Interval::child_leaves))]
 pub fn child_leaves(relation: u8, set: Set) -> Set
     ensures { result ≡ child_leaves unbounded relation set }
 {
-    if set.high < set.low {
-        return Set { low: 1, high: 0 };
+    if set.is_empty() {
+        return Set::EMPTY;
     }
-    leaves(relation, set)
+    Relation::from(relation).leaves(set)
 }
 
 // What a token's column leaves its parent.
+#[tactic(auto, unfolding(crate::specs::Interval::token_leaves))]
 pub fn token_leaves(relation: u8, column: u16) -> Set
     ensures { result ≡ token_leaves unbounded relation column }
 {
     if column == NO_COLUMN {
-        if relation == 0 {
-            return Set { low: 1, high: 0 };
-        }
-        return all();
+        return match Relation::from(relation) {
+            Relation::Equal => Set::EMPTY,
+            Relation::Greater | Relation::AtLeast | Relation::Free => all(),
+        };
     }
-    leaves(
-        relation,
-        Set {
-            low: column as u32,
-            high: column as u32,
-        },
-    )
-}
-
-// The greater of two numbers.
-fn greater(a: u32, b: u32) -> u32
-    ensures { result ≡ max a b }
-{
-    if a < b {
-        return b;
-    }
-    a
-}
-
-// The smaller of two numbers.
-fn smaller(a: u32, b: u32) -> u32
-    ensures { result ≡ min a b }
-{
-    if a < b {
-        return a;
-    }
-    b
+    let column = u32::from(column);
+    Relation::from(relation).leaves(Set {
+        low: column,
+        high: column,
+    })
 }
 
 // The numbers that are in both sets.
+#[tactic(auto, unfolding(crate::specs::Interval::meet))]
 pub fn meet(a: Set, b: Set) -> Set
     ensures { result ≡ meet_of a b }
 {
-    let low = greater(a.low, b.low);
-    let high = smaller(a.high, b.high);
-    if high < low {
-        return Set { low: 1, high: 0 };
-    }
-    Set {
-        low: low,
-        high: high,
-    }
+    let both = Set {
+        low: a.low.max(b.low),
+        high: a.high.min(b.high),
+    };
+    if both.is_empty() { Set::EMPTY } else { both }
 }
 
 // The least number of a child with this set below a parent with indentation i, or the greatest that
 // 32 bits hold where it is above that.
+#[tactic(auto, unfolding(crate::specs::Interval::least))]
 pub fn least(relation: u8, i: u32, set: Set) -> u32
     ensures { result ≡ min (least_of relation i set) unbounded }
 {
-    if relation == 0 {
-        return i;
+    match Relation::from(relation) {
+        Relation::Equal => i,
+        Relation::Greater => i.saturating_add(1).max(set.low),
+        Relation::AtLeast => i.max(set.low),
+        Relation::Free => set.low,
     }
-    if relation == 1 {
-        if i == UNBOUNDED {
-            return i;
-        }
-        return greater(i + 1, set.low);
-    }
-    if relation == 2 {
-        return greater(i, set.low);
-    }
-    set.low
 }
