@@ -1,8 +1,10 @@
--- The counts of a header are those that it says in one way.
+-- Counts are those of a header in one way.
 use Rattle.std.specs.Prelude.{List, ℕ}
 use Rattle.std.specs.Coded.{Coded-set, coded_ℕ}
 use Rattle.grammar_image.specs.declared.Counts.{Counts}
-use Rattle.grammar_image.specs.GrammarImage.{Counted, terminal_count, nonterminal_count, start_nonterminal, production_count, entry_count}
+use Rattle.grammar_image.specs.GrammarImage.{Counted}
+use Rattle.grammar_image.specs.GrammarImage.{terminal_count, nonterminal_count, start_nonterminal}
+use Rattle.grammar_image.specs.GrammarImage.{production_count, entry_count}
 
 pub counted_prop : (image : List ℕ) (r : Counts) → IsProp (Counted image r)
 counted_prop image r a b i =
