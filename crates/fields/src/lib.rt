@@ -49,7 +49,7 @@ impl Header {
         ensures { result ≡ first_fault (counted_fields self image.now) }
     {
         let length = image.len();
-        if length < self.bytes as usize {
+        if length < usize::from(self.bytes) {
             return Err(Fault {
                 byte: length as u32,
             });
@@ -64,8 +64,8 @@ impl Header {
         if field_at(image, 2) != self.bytes {
             return Err(Fault { byte: 2 });
         }
-        let total = field_at(image, 4) as usize;
-        if total != self.bytes as usize + self.record_bytes as usize * count as usize {
+        let total = usize::from(field_at(image, 4));
+        if total != usize::from(self.bytes) + usize::from(self.record_bytes) * usize::from(count) {
             return Err(Fault { byte: 4 });
         }
         if total != length {

@@ -37,7 +37,7 @@ pub fn token_at(image: &[u8], k: u16) -> Token
     requires { 6 + 4 * k + 4 ≤ length image.now }
     ensures { TokenIs image.now k result }
 {
-    let at = 6 + 4 * (k as usize);
+    let at = 6 + 4 * usize::from(k);
     Token {
         terminal: field_at(image, at),
         column: field_at(image, at + 2),
@@ -75,7 +75,7 @@ fn check_records(image: &[u8], terminals: u16) -> Result<(), Fault>
     requires { 6 + 4 * token_count image.now ≤ length image.now }
     ensures { result ≡ first_fault (records_fields terminals image.now) }
 {
-    let count = token_count(image) as usize;
+    let count = usize::from(token_count(image));
     let byte = 'search: loop {
         for k in 0..count {
             for f in 0..2 {

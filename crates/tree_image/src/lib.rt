@@ -21,7 +21,7 @@ pub fn node_at(image: &[u8], n: u16) -> u16
     requires { 6 + 2 * n + 2 ≤ length image.now }
     ensures { result ≡ node_at image.now n }
 {
-    field_at(image, 6 + 2 * (n as usize))
+    field_at(image, 6 + 2 * usize::from(n))
 }
 
 // The header's fields.
@@ -42,7 +42,7 @@ fn check_records(image: &[u8], productions: u16) -> Result<(), Fault>
     requires { 6 + 2 * node_count image.now ≤ length image.now }
     ensures { result ≡ first_fault (records_fields productions image.now) }
 {
-    let count = node_count(image) as usize;
+    let count = usize::from(node_count(image));
     let byte = 'search: loop {
         for n in 0..count {
             let at = 6 + 2 * n;

@@ -4,4 +4,4 @@ use Rattle.fields.proofs.field_at.Goals as goal
 
 pub returns : goal.returns
 unfolding field_at
-returns c = grind arith
+returns c = omega arith

@@ -13,7 +13,7 @@ one P image n = refl
 pub loop-n-init : goal.loop-n-init
 unfolding records_fields
 loop-n-init c =
-    let count : node_count c.args.image.now ≡ c.node_count-count.result - 0 = omega arith in
+    let count : node_count c.args.image.now ≡ c.from-count.result - 0 = omega arith in
     ap (λ (n : ℕ). first_fault (each_from 0 n (record_fields c.args.productions c.args.image.now))) count
 
 pub loop-n-preserved : goal.loop-n-preserved
@@ -22,7 +22,7 @@ loop-n-preserved c =
     let P = c.args.productions in
     let image = c.args.image.now in
     let n = c.loop-n.n in
-    let count = c.node_count-count.result in
+    let count = c.from-count.result in
     let keeps : (get_or (record_fields P image n) 0 nowhere).keeps ≡ true = omega tests in
     let next = turn (record_fields P image) count 1 (one P image) n c.loop-n-test.true c.loop-n.invariant in
     turned (record_fields P image) count 1 (one P image) n 1 (omega arith)
@@ -32,7 +32,7 @@ pub returns-in-search : goal.returns-in-search
 returns-in-search c =
     let P = c.args.productions in
     let image = c.args.image.now in
-    sym (finished (record_fields P image) c.node_count-count.result 1 (one P image) c.loop-n.n c.loop-n-test.false c.loop-n.invariant)
+    sym (finished (record_fields P image) c.from-count.result 1 (one P image) c.loop-n.n c.loop-n-test.false c.loop-n.invariant)
 
 pub returns : goal.returns
 unfolding record_fields
@@ -40,7 +40,7 @@ returns c =
     let P = c.args.productions in
     let image = c.args.image.now in
     let n = c.loop-n.n in
-    let count = c.node_count-count.result in
+    let count = c.from-count.result in
     let breaks : (get_or (record_fields P image n) 0 nowhere).keeps ≡ false = omega tests in
     let next = turn (record_fields P image) count 1 (one P image) n c.loop-n-test.true c.loop-n.invariant in
     ap fault_at (omega arith) ∙ sym (failed (record_fields P image) count 1 (one P image) n 0 false (omega arith) (sym breaks) refl next)
