@@ -54,7 +54,7 @@ fn packed_in_one(packed: Result<u16, packers::Refusal>) -> u64
 {
     match packed {
         Ok(length) => in_one(0, length, 0),
-        Err(refusal) => in_one(refusal.number(), 0, refusal.place()),
+        Err(unpacked) => in_one(unpacked.number(), 0, unpacked.place()),
     }
 }
 

@@ -21,7 +21,8 @@ use Rattle.std.specs.Prelude.{Result}
 use Rattle.derive.specs.Answers.{refusal_answer, derivation_answer}
 use Rattle.derive.specs.Images.{walk_in}
 use Rattle.judge.specs.Judged.{Entries, entries, room, tests, first_refusal, enough}
-use Rattle.judge.specs.Refusals.{Refusal as CheckRefusal, refusal_answer as check_answer}
+use Rattle.judge.specs.declared.Refusal.{Refusal as CheckRefusal}
+use Rattle.judge.specs.Refusals.{refusal_answer as check_answer}
 use Rattle.judge.specs.declared.Refusal.TheVariants.{Grammar, Tokens, Tree, Room, Derivation, Empty}
 use Rattle.judge.specs.Parts.{image_tests, room_tests, walk_tests}
 use Rattle.judge.proofs.Passed.{first_passed}

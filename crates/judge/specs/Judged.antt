@@ -14,7 +14,8 @@ use Rattle.token_image.specs.TokenImage.{tokens_of, token_fields}
 use Rattle.tree_image.specs.TreeImage.{node_count, nodes_of, tree_fields}
 use Rattle.derive.specs.Images.{walk_in}
 use Rattle.std.specs.Prelude.{Result, Ok, Err}
-use Rattle.judge.specs.Refusals.{Refusal, refusal_answer}
+use Rattle.judge.specs.declared.Refusal.{Refusal}
+use Rattle.judge.specs.Refusals.{refusal_answer}
 
 -- "two lent lists of 32-bit numbers": what they hold
 pub record Lists : Type 0 where

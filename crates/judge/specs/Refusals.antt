@@ -1,7 +1,7 @@
 -- Document 01's number and place for each refusal of the check.
 use Rattle.rules.specs.Walk.{Answer, answer}
 use Rattle.derive.specs.Answers.{refusal_answer as walk_answer}
-pub use Rattle.judge.specs.declared.Refusal.{Refusal}
+use Rattle.judge.specs.declared.Refusal.{Refusal}
 use Rattle.judge.specs.declared.Refusal.TheVariants.{Grammar, Tokens, Tree, Room, Derivation, Empty}
 
 abbrev pub refusal_answer : Refusal → Answer

@@ -131,9 +131,8 @@ pub fn check_derivation(grammar: &[u8], tokens: &[u8], tree: &[u8]) -> Result<()
     ensures { given result
         ≡ derivation (images grammar.now tokens.now tree.now) }
 {
-    let formed = formed(grammar, tokens, tree)?;
-    derive(&formed)?;
-    Ok(())
+    let images = formed(grammar, tokens, tree)?;
+    Ok(derive(&images)?)
 }
 
 // Whether the nodes of the tree image are a right tree over the tokens, and whether indentations can
@@ -155,7 +154,7 @@ pub fn check(
 {
     let formed = tested(grammar, tokens, tree, sets.len(), indentations.len())?;
     let root = set_pass::root(&formed, sets);
-    if root.high < root.low {
+    if root.is_empty() {
         let node = highest_empty(sets, formed.nodes.node_count());
         return Err(Refusal::Empty(node));
     }

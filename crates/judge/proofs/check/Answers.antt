@@ -1,5 +1,5 @@
 -- What is refused is refused before anything is written, and what both passes write is the verdict on the tree that the nodes derive.
-use Rattle.std.proofs.Common.{◌≡◌, refl, ap, subst, ◌∙◌, ℕ, List, arith}
+use Rattle.std.proofs.Common.{◌≡◌, refl, sym, ap, subst, ◌∙◌, ℕ, List, arith, ltb-true, ltb-false}
 use Rattle.fields.specs.Images.{Images, images}
 use Rattle.tree_image.specs.TreeImage.{node_count}
 use Rattle.rules.specs.declared.relation.Set.{Set}
@@ -39,11 +39,12 @@ highest_empty-node-requires c =
     let nodes = ap (λ (s : Images). node_count s.tree) c.in_ok-formed.ensures.images in
     omega (arith, room, nodes, c.node_count.ensures, c.root-root.auto.sets)
 
-pub returns-then-root : goal.returns-then-root
-returns-then-root c =
+pub returns-then-is_empty : goal.returns-then-is_empty
+returns-then-is_empty c =
     let passed = answered_zero _ c.in_ok-formed.ensures.answer refl in
     let nodes = ap (λ (s : Images). node_count s.tree) c.in_ok-formed.ensures.images in
-    empty_judged _ _ passed (root_of c.in_ok-formed.ensures.images c.root-root.ensures) (omega arith) (c.node_count.ensures ∙ nodes) c.highest_empty-node.ensures
+    empty_judged _ _ passed (root_of c.in_ok-formed.ensures.images c.root-root.ensures) (ltb-true _ _ (sym c.if-is_empty.ensures))
+    (c.node_count.ensures ∙ nodes) c.highest_empty-node.ensures
 
 pub node-requires-clause-stands : goal.node-requires-clause-stands
 node-requires-clause-stands c =
@@ -70,5 +71,5 @@ pub returns : goal.returns
 returns c =
     let passed = answered_zero _ c.in_ok-formed.ensures.answer refl in
     let images_in = c.in_ok-formed.ensures.images in
-    accepted_judged _ _ passed (root_of images_in c.root-root.ensures) (omega arith)
+    accepted_judged _ _ passed (root_of images_in c.root-root.ensures) (ltb-false _ _ (sym c.if-is_empty.ensures))
     (rw (ap (λ (s : Images). s.grammar) images_in, ap (λ (s : Images). s.tree) images_in) at c.node.ensures)
