@@ -34,5 +34,6 @@ pub formed_prop : (s : Images) → IsProp (Formed s)
 formed_prop s a b i =
     record {
       nodes_formed = formed_tree_prop s.grammar s.tree a.nodes_formed b.nodes_formed i;
-      tokens_formed = well_formed_prop (token_fields (terminal_count s.grammar) s.tokens) a.tokens_formed b.tokens_formed i;
+      tokens_formed =
+          well_formed_prop (token_fields (terminal_count s.grammar) s.tokens) a.tokens_formed b.tokens_formed i;
     }

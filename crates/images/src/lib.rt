@@ -25,8 +25,7 @@ pub struct FormedTree<'a> {
 pub struct Formed<'a> {
     pub nodes: FormedTree<'a>,
     pub tokens: &'a [u8],
-    pub ghost formed: { Formed (images nodes.grammar.now tokens.now nodes.tree.now) }
-        by { formed_prop (images nodes.grammar.now tokens.now nodes.tree.now) },
+    pub ghost formed: { Formed (images nodes.grammar.now tokens.now nodes.tree.now) } by { formed_prop (images nodes.grammar.now tokens.now nodes.tree.now) },
 }
 
 impl FormedTree<'_> {

@@ -15,7 +15,6 @@ use Rattle.rules.proofs.Refusals.{answers, derives_answered}
 use Rattle.fields.specs.Images.{Images}
 use Rattle.fields.specs.Fields.{Checked}
 use Rattle.std.specs.Prelude.{Ok, Err}
-use Rattle.fields.specs.Fields.{fault_at}
 use Rattle.fields.specs.Answers.{checked_number}
 use Rattle.fields.specs.Fields.{first_fault}
 use Rattle.fields.proofs.Promised.{well_formed_good}

@@ -12,7 +12,6 @@ use Rattle.rules.specs.Walk.{Answer, answer}
 use Rattle.rules.proofs.Refusals.{answers, derived, derives_answered}
 use Rattle.fields.specs.Fields.{Checked}
 use Rattle.std.specs.Prelude.{Ok, Err}
-use Rattle.fields.specs.Fields.{fault_at}
 use Rattle.fields.specs.Answers.{checked_number}
 use Rattle.fields.specs.Fields.{first_fault}
 use Rattle.grammar_image.specs.GrammarImage.{terminal_count, production_count, start_nonterminal, production_at, grammar_fields}

@@ -8,7 +8,6 @@ use lib.Dec.{eqb}
 use borrow.Author.Tests.{lt-ltb, le-ltb, eq-eqb}
 use Rattle.fields.specs.Images.{Images}
 use Rattle.rules.specs.Walk.{Answer, answer}
-use Rattle.fields.specs.Fields.{Checked}
 use Rattle.std.specs.Prelude.{Ok, Err}
 use Rattle.fields.specs.declared.Fault.{Fault}
 use Rattle.fields.specs.Fields.{first_fault}

@@ -13,10 +13,10 @@ use borrow.Author.Tests.{le-leb, lt-leb, eq-eqb, ne_eqb, leb-true, eqb-true}
 use Rattle.rules.specs.Limits.{max_nodes, max_tokens}
 use Rattle.fields.specs.Fields.{field_at, Bytes, Field, field, WellFormed, first_fault, list_from, list}
 use Rattle.packers.specs.Packing.{bytes_of, in_turn, into_room, tree_answer, column_fields, past_columns, columns_refusal, token_answer}
-use Rattle.std.specs.Prelude.{Result, Ok, Err}
+use Rattle.std.specs.Prelude.{Ok, Err}
 use Rattle.fields.specs.Fields.{Checked}
 use Rattle.packers.specs.declared.Refusal.{Refusal}
-use Rattle.packers.specs.declared.Refusal.TheVariants.{Entries, Column, Room}
+use Rattle.packers.specs.declared.Refusal.TheVariants.{Entries, Room}
 use Rattle.packers.specs.Answers.{Packed}
 use Rattle.fields.proofs.Formed.{both_true}
 

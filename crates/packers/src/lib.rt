@@ -5,8 +5,8 @@ ghost use Rattle.std.specs.Prelude.{◌≡◌, [], ◌∷◌, ◌++◌, ◌+◌,
 ghost use Rattle.packers.specs.Answers.{refusal_number, refusal_place};
 ghost use Rattle.packers.specs.Packing.{bytes_of, into_room};
 
-// Why a packer writes nothing. Where it writes, it answers the length of the image, which stands in the first bytes of the
-// output.
+// Why a packer writes nothing. Where it writes, it answers the length of the image, which stands in the
+// first bytes of the output.
 #[derive(Clone, Copy, Debug, PartialEq, Eq)]
 pub enum Refusal {
     // Too many entries, an empty tree list, or two lists of unequal length.

@@ -28,14 +28,7 @@ fn answer(rt: &(impl Print + Eprint), delivery: &[u8]) {
         Err(refusal) => (refusal.number(), refusal.place(), 0),
     };
     let mut text = [0u8; TEXT];
-    let length = report(
-        number,
-        place,
-        nodes,
-        &sets,
-        &indentations,
-        &mut text,
-    );
+    let length = report(number, place, nodes, &sets, &indentations, &mut text);
     if rt.write_all(&text[..length]).is_err() {
         complain(rt, "pravisondo: standard output cannot be written");
     }

@@ -54,9 +54,9 @@ fn write_tokens(terminals: &[u16], columns: &[u16], out: &mut [u8])
     }
 }
 
-// Packs a list of terminals and one of their columns as a token image at the start of the output, and gives its length.
-// Refused, and then nothing is written: lists of unequal length or over the greatest number of
-// tokens; a column that is not allowed; too little room.
+// Packs a list of terminals and one of their columns as a token image at the start of the output, and
+// gives its length. Refused, and then nothing is written: lists of unequal length or over the greatest
+// number of tokens; a column that is not allowed; too little room.
 #[tactic(auto, using(packers::proofs::Packing::tokens_fit))]
 pub fn pack_tokens(terminals: &[u16], columns: &[u16], out: &mut [u8]) -> Result<u16, Refusal>
     ensures { TokensPacked terminals.now columns.now out.old

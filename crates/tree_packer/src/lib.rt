@@ -37,8 +37,9 @@ fn write_tree(productions: &[u16], out: &mut [u8])
     }
 }
 
-// Packs a list of production numbers as a tree image at the start of the output, and gives its length. Refused, and then
-// nothing is written: an empty list or one over the greatest number of nodes; too little room.
+// Packs a list of production numbers as a tree image at the start of the output, and gives its length.
+// Refused, and then nothing is written: an empty list or one over the greatest number of nodes; too little
+// room.
 #[tactic(auto, using(packers::proofs::Packing::tree_fits))]
 pub fn pack_tree(productions: &[u16], out: &mut [u8]) -> Result<u16, Refusal>
     ensures { TreePacked productions.now out.old result out.new }

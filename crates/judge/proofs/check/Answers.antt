@@ -4,7 +4,7 @@ use Rattle.fields.specs.Images.{Images, images}
 use Rattle.tree_image.specs.TreeImage.{node_count}
 use Rattle.rules.specs.declared.relation.Set.{Set}
 use Rattle.set_pass.specs.Passes.{RootSet}
-use Rattle.judge.specs.Judged.{lists, given}
+use Rattle.judge.specs.Judged.{lists}
 use Rattle.fields.proofs.Searching.{handed}
 use Rattle.judge.proofs.Outcomes.{refused_judged, room_for_sets, room_for_indentations, some_tree, some_tree_listed, empty_judged, accepted_judged}
 use Rattle.judge.proofs.Passed.{answered_zero}

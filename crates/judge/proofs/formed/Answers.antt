@@ -1,12 +1,11 @@
 -- Each way out passes the images that were tested before it.
-use Rattle.std.proofs.Common.{◌≡◌, sym, ◌∙◌, ℕ, List, Ok, Result}
-use Rattle.fields.specs.Fields.{first_fault, WellFormed}
-use Rattle.grammar_image.specs.GrammarImage.{terminal_count, production_count, grammar_fields}
+use Rattle.std.proofs.Common.{◌≡◌, sym, ◌∙◌, Ok}
+use Rattle.fields.specs.Fields.{first_fault}
+use Rattle.grammar_image.specs.GrammarImage.{terminal_count, production_count}
 use Rattle.token_image.specs.TokenImage.{token_fields}
 use Rattle.tree_image.specs.TreeImage.{tree_fields}
 use Rattle.fields.proofs.Promised.{good_well_formed}
 use Rattle.grammar_image.proofs.Within.{header_within}
-use Rattle.images.specs.Formed.{FormedTree}
 use Rattle.judge.proofs.Tests.{grammar_refused, tokens_refused, tree_refused, images_passed}
 use Rattle.judge.proofs.formed.Goals as goal
 
@@ -24,14 +23,14 @@ returns-in-Err-check_tokens-clause-answer c =
 pub returns-in-Err-check_tree-clause-answer : goal.returns-in-Err-check_tree-clause-answer
 returns-in-Err-check_tree-clause-answer c =
     let tokens : Ok tt ≡ first_fault (token_fields (terminal_count c.args.grammar.now) c.args.tokens.now) =
-        rw (← c.counts_at-counts.ensures.terminals) (sym c.in_default-check_tokens.is ∙ c.check_tokens.ensures) in
+    rw (← c.counts_at-counts.ensures.terminals) (sym c.in_default-check_tokens.is ∙ c.check_tokens.ensures) in
     tree_refused _ (sym c.in_default.is ∙ c.check_grammar.ensures) tokens c.counts_at-counts.ensures.productions
     (sym c.in-Err-check_tree.is ∙ c.check_tree.ensures)
 
 pub invariant_of-nodes : goal.invariant_of-nodes
 invariant_of-nodes c =
     let tree : Ok tt ≡ first_fault (tree_fields (production_count c.args.grammar.now) c.args.tree.now) =
-        rw (← c.counts_at-counts.ensures.productions) (sym c.in_default-check_tree.is ∙ c.check_tree.ensures) in
+    rw (← c.counts_at-counts.ensures.productions) (sym c.in_default-check_tree.is ∙ c.check_tree.ensures) in
     record {
       formed =
           record {
@@ -43,9 +42,9 @@ invariant_of-nodes c =
 pub invariant_of-result : goal.invariant_of-result
 invariant_of-result c =
     let tokens : Ok tt ≡ first_fault (token_fields (terminal_count c.args.grammar.now) c.args.tokens.now) =
-        rw (← c.counts_at-counts.ensures.terminals) (sym c.in_default-check_tokens.is ∙ c.check_tokens.ensures) in
+    rw (← c.counts_at-counts.ensures.terminals) (sym c.in_default-check_tokens.is ∙ c.check_tokens.ensures) in
     let tree : Ok tt ≡ first_fault (tree_fields (production_count c.args.grammar.now) c.args.tree.now) =
-        rw (← c.counts_at-counts.ensures.productions) (sym c.in_default-check_tree.is ∙ c.check_tree.ensures) in
+    rw (← c.counts_at-counts.ensures.productions) (sym c.in_default-check_tree.is ∙ c.check_tree.ensures) in
     record {
       formed =
           record {
@@ -61,7 +60,7 @@ invariant_of-result c =
 pub returns-clause-answer : goal.returns-clause-answer
 returns-clause-answer c =
     let tokens : Ok tt ≡ first_fault (token_fields (terminal_count c.args.grammar.now) c.args.tokens.now) =
-        rw (← c.counts_at-counts.ensures.terminals) (sym c.in_default-check_tokens.is ∙ c.check_tokens.ensures) in
+    rw (← c.counts_at-counts.ensures.terminals) (sym c.in_default-check_tokens.is ∙ c.check_tokens.ensures) in
     let tree : Ok tt ≡ first_fault (tree_fields (production_count c.args.grammar.now) c.args.tree.now) =
-        rw (← c.counts_at-counts.ensures.productions) (sym c.in_default-check_tree.is ∙ c.check_tree.ensures) in
+    rw (← c.counts_at-counts.ensures.productions) (sym c.in_default-check_tree.is ∙ c.check_tree.ensures) in
     images_passed _ (sym c.in_default.is ∙ c.check_grammar.ensures) tokens tree

@@ -1,10 +1,9 @@
 -- One part of the tests after another.
-use Rattle.std.proofs.Common.{◌≡◌, refl, ap, ◌∙◌, ℕ, Ok, Err}
-use Rattle.fields.specs.Images.{Images, images}
+use Rattle.std.proofs.Common.{refl, ap, ◌∙◌, Ok, Err}
+use Rattle.fields.specs.Images.{Images}
 use Rattle.tree_image.specs.TreeImage.{node_count}
 use Rattle.derive.specs.Images.{walk_in}
-use Rattle.judge.specs.Judged.{given, first_refusal, entries}
-use Rattle.judge.specs.Parts.{room_tests}
+use Rattle.judge.specs.Judged.{given}
 use Rattle.fields.proofs.Searching.{handed}
 use Rattle.judge.proofs.Passed.{answered_zero}
 use Rattle.judge.proofs.Tests.{some_number, images_first, room_first, walk_first, walked}
