@@ -17,7 +17,7 @@ use tree_image::{node_at, node_count};
 pub struct FormedTree<'a> {
     pub grammar: &'a [u8],
     pub tree: &'a [u8],
-    pub ghost formed: { FormedTree grammar.now tree.now } by { formed_tree_prop grammar.now tree.now },
+    pub ghost formed: { FormedTree grammar.now tree.now } by { formed_tree_prop _ _ },
 }
 
 // And a token image that is well formed for its terminals.
@@ -25,7 +25,7 @@ pub struct FormedTree<'a> {
 pub struct Formed<'a> {
     pub nodes: FormedTree<'a>,
     pub tokens: &'a [u8],
-    pub ghost formed: { Formed (images nodes.grammar.now tokens.now nodes.tree.now) } by { formed_prop (images nodes.grammar.now tokens.now nodes.tree.now) },
+    pub ghost formed: { Formed (images nodes.grammar.now tokens.now nodes.tree.now) } by { formed_prop _ },
 }
 
 impl FormedTree<'_> {
