@@ -1,4 +1,5 @@
 -- Laws of the bytes of a list of fields, and of an output whose first fields are written.
+use Rattle.std.proofs.Common.{sym, length-drop, drop-drop, get_or-drop}
 use mathlib.Core.Path.{◌≡◌, refl, ap, ◌∙◌}
 use mathlib.Core.Bool.{Bool, true, false, ◌&&◌, cond}
 use mathlib.Core.List.{List, [], ◌∷◌, ◌++◌, map}
@@ -97,6 +98,15 @@ module _ (terminals columns : List ℕ) (k : ℕ) (same : length terminals ≡ l
     where
       e : (k : ℕ) → 4 + 2 * k ≡ 3 + suc (2 * k)
       e k = omega arith
+
+-- the entry of a list that comes after k of them is that of index k
+pub next_entry : (k : ℕ) (xs : List ℕ) {x : ℕ} {rest : List ℕ} → drop k xs ≡ x ∷ rest →
+    (k < length xs) × (drop (k + 1) xs ≡ rest) × (x ≡ get_or xs k 0)
+next_entry k xs {x} {rest} taken = (
+  omega (arith, length-drop k xs, ap (λ (l : List ℕ). length l) taken),
+  sym (drop-drop 1 k xs) ∙ rw taken,
+  sym (rw add-zero at (sym (get_or-drop k xs 0 0)) ∙ rw taken),
+)
 
 -- lists of what records hold
 pub map_list {ℓ ℓ'} : {A : Type ℓ} {B : Type ℓ'} (g : A → B) (k n : ℕ) (f : ℕ → A) → map g (list_from k n f) ≡ list_from k n (λ i. g (f i))

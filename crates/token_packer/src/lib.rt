@@ -48,9 +48,9 @@ fn write_tokens(terminals: &[u16], columns: &[u16], out: &mut [u8])
 {
     let count = terminals.len();
     put_header(out, count as u16, (6 + 4 * count) as u16);
-    for (k, &terminal) in terminals.iter().enumerate() {
+    for (k, (&terminal, &column)) in terminals.iter().zip(columns).enumerate() {
         put(out, 3 + 2 * k, terminal);
-        put(out, 4 + 2 * k, columns[k]);
+        put(out, 4 + 2 * k, column);
     }
 }
 
