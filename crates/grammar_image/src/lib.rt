@@ -33,7 +33,8 @@ pub struct Production {
     pub count: u16,
 }
 
-// A symbol of a row, with the bytes of its entry for the kind and the relation.
+// A symbol of a row. Kind and relation are the bytes of its entry, since `symbol_at` reads any image and
+// promises what stands there.
 #[derive(Clone, Copy)]
 pub struct Symbol {
     pub kind: u8,
@@ -242,7 +243,8 @@ impl Records<'_> {
         }
     }
 
-    // The productions' fields, then their last end, which is a fault of byte 8.
+    // The productions' fields, then their last end, which is a fault of byte 8. As document 01 has it, this
+    // search and that of the symbols are nested loops, left by their label with the field's byte.
     fn check_productions(&self) -> Result<(), Fault>
         ensures { result ≡ first_fault (productions_fields self.now.header.image.now) }
     {
@@ -300,7 +302,8 @@ impl Records<'_> {
         kind / 2 + relation / 4 + beyond
     }
 
-    // The same of the sixteen symbol entries from y on, all together.
+    // The same of the sixteen symbol entries from y on, all together. A loop adds them up: of a chain with
+    // `sum` it is not proved that the sum fits.
     fn sixteen_over(&self, y: u16) -> u16
         requires { y + 16 ≤ entry_count self.now.header.image.now }
         ensures { result ≡ 0 → WellFormed (each_from y 16 (symbol_fields self.now.header.image.now)) }

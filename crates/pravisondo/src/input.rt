@@ -7,7 +7,8 @@ use std::io;
 use std::io::Read;
 
 // Reads until `bytes` is full or the input ends, and returns how many bytes came. A read that fails makes the
-// whole input worthless: the bytes before it would be judged as if they were all.
+// whole input worthless: the bytes before it would be judged as if they were all. The bytes are counted here:
+// std's `read_exact` gives no count, and its `read_to_end` needs a heap.
 pub fn read<R: Read>(input: &mut R, bytes: &mut [u8]) -> io::Result<usize>
     ensures within { Within result (length bytes.new) }
     ensures came { IfOk result (λ n. Consumes (R.remaining input.old) (R.remaining input.new) (take n bytes.new)) }

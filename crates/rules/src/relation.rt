@@ -100,7 +100,8 @@ fn below(high: u32) -> Set
     }
 }
 
-// What a child's set leaves its parent.
+// What a child's set leaves its parent. As the two like it below, it takes the relation's number and
+// answers for every one: a symbol is read of any image.
 #[tactic(auto, unfolding(crate::specs::Interval::child_leaves))]
 pub fn child_leaves(relation: u8, set: Set) -> Set
     ensures { result ≡ child_leaves unbounded relation set }

@@ -70,7 +70,7 @@ fn token_keeps(image: &[u8], terminals: u16, k: usize, f: usize) -> bool
     }
 }
 
-// The tokens' fields.
+// The tokens' fields: document 01's nested loops, left by their label with the field's byte.
 fn check_records(image: &[u8], terminals: u16) -> Result<(), Fault>
     requires { 6 + 4 * token_count image.now ≤ length image.now }
     ensures { result ≡ first_fault (records_fields terminals image.now) }

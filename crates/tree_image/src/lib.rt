@@ -37,7 +37,7 @@ fn check_header(image: &[u8]) -> Result<(), Fault>
     header.check(image)
 }
 
-// The nodes, which are a field each.
+// The nodes, which are a field each: document 01's loop, left by its label with the field's byte.
 fn check_records(image: &[u8], productions: u16) -> Result<(), Fault>
     requires { 6 + 2 * node_count image.now ≤ length image.now }
     ensures { result ≡ first_fault (records_fields productions image.now) }
