@@ -1,8 +1,7 @@
 -- Laws of the walk over the images, one for each way that a token, a node or a row ends.
-use Rattle.std.proofs.Common.{◌≡◌, refl, sym, ap, ◌∙◌, Bool, true, false, cond, List, ◌∷◌, ℕ, zero, suc, ◌+◌, ◌-◌, ◌<◌, ◌≤◌, ltb, arith, add-one}
-use Rattle.std.proofs.Common.{Result, Err, IsErr, IsErrAnd}
+use Rattle.std.proofs.Common.{◌≡◌, refl, sym, ◌∙◌, true, false, List, ℕ, zero, suc, ◌+◌, ◌-◌, ◌<◌, ◌≤◌, ltb, arith, add-one, Some, ne_eqb}
 use Rattle.std.specs.declared.ops.Range.{Range}
-use Rattle.std.proofs.lemmas.Result.{err_from_is_err_and}
+use Rattle.std.proofs.iter.Yields.{nat_range_steps}
 use Rattle.rules.specs.Grammar.{Symbol, Production, Token}
 use Rattle.rules.specs.Walk.{Walked, used, refused, Answer, answer, and_then, no_token, token_due, node_met, symbol_due, row_due, node_due, walk_done, walk}
 use Rattle.rules.specs.Limits.{max_depth}
@@ -17,11 +16,8 @@ use Rattle.tree_image.specs.TreeImage.{node_count, node_at, nodes_of}
 use Rattle.rules.proofs.Steps.{token_missing, token_other, token_meets, node_missing, node_other, node_meets}
 use Rattle.token_image.proofs.Lists.{length_tokens, token_of}
 use Rattle.tree_image.proofs.Lists.{length_nodes, node_of}
+use Rattle.images.proofs.Rows.{listed, listed_turn, listed_over, listed_whole, terminal_is, nonterminal_is}
 use Rattle.fields.proofs.Searching.{tests}
-
--- a refusal is handed on by `?` as it is
-pub handed : {A E : Type 0} {r : Result A E} {e : E} → IsErr r × IsErrAnd r (λ (f : E). f ≡ e) → r ≡ Err e
-handed {r} h = let p = err_from_is_err_and r h.1 in p.1 ∙ ap Err p.2
 
 -- the terminal a is due
 module _ (image : List ℕ) (a n k : ℕ) where
@@ -79,53 +75,35 @@ module _ (grammar tree : List ℕ) (A n : ℕ) where
       unfolding row_due list_from
       row_empty levels some h same none = row_walked levels some h same (rw none)
 
--- what a test gives, by what stands at the symbol
-terminal_test : (b : Bool) → Terminal ≡ cond b Terminal Nonterminal → b ≡ true
-terminal_test true e = refl
-terminal_test false e = cc
-
-nonterminal_test : (b : Bool) → Nonterminal ≡ cond b Terminal Nonterminal → b ≡ false
-nonterminal_test true e = cc
-nonterminal_test false e = refl
-
 -- a symbol is due, which the reader gives as r
 module _ (ts : List Token) (below : ℕ → ℕ → ℕ → Walked) {image : List ℕ} {y : ℕ} {r : SymbolRead} (read : SymbolIs image y r) (n k : ℕ) {w : Walked} where
   pub terminal_due : Terminal ≡ kind_of r.kind → w ≡ token_due ts r.number n k → w ≡ symbol_due ts below (symbol_at image y) n k
   unfolding symbol_due
-  terminal_due terminal e = rw (← read.kind, terminal_test _ terminal, ← read.number) e
+  terminal_due terminal e = rw (← read.kind, terminal_is _ terminal, ← read.number) e
 
   pub nonterminal_due : Nonterminal ≡ kind_of r.kind → w ≡ below r.number n k → w ≡ symbol_due ts below (symbol_at image y) n k
   unfolding symbol_due
-  nonterminal_due nonterminal e = rw (← read.kind, nonterminal_test _ nonterminal, ← read.number) e
+  nonterminal_due nonterminal e = rw (← read.kind, ne_eqb _ _ (nonterminal_is _ nonterminal), ← read.number) e
 
 -- a row of which the symbols of some entries are left
 module _ (ts : List Token) (below : ℕ → ℕ → ℕ → Walked) (f : ℕ → Symbol) (entries : Range ℕ) (n k : ℕ) where
   -- y is the first of them, and `rest` are the others
-  module _ {y : ℕ} {rest : Range ℕ} (step : (rest.end ≡ entries.end) × ((0 < entries.end - entries.start) × (y ≡ entries.start) × (rest.start ≡ entries.start + 1))) where
-    one_more : list_from entries.start (entries.end - entries.start) f ≡ f y ∷ list_from rest.start (rest.end - rest.start) f
-    unfolding list_from
-    one_more =
-        let e : entries.end - entries.start ≡ suc (rest.end - rest.start) = omega (arith, step) in
-        rw (e, step.1.1, step.1.2, add-one)
-
-    pub row_refused : {a : Answer} → refused a ≡ symbol_due ts below (f y) n k → refused a ≡ row_due ts below (list_from entries.start (entries.end - entries.start) f) n k
+  module _ {y : ℕ} {rest : Range ℕ} (turn : nat_range_steps entries (Some y) rest) where
+    pub row_refused : {a : Answer} → refused a ≡ symbol_due ts below (f y) n k → refused a ≡ row_due ts below (listed f entries) n k
     unfolding row_due and_then
-    row_refused e = rw (one_more, ← e)
+    row_refused e = rw (listed_turn f turn, ← e)
 
-    pub row_goes_on : {m j : ℕ} → used m j ≡ symbol_due ts below (f y) n k → row_due ts below (list_from rest.start (rest.end - rest.start) f) m j ≡ row_due ts below (list_from entries.start (entries.end - entries.start) f) n k
+    pub row_goes_on : {m j : ℕ} → used m j ≡ symbol_due ts below (f y) n k → row_due ts below (listed f rest) m j ≡ row_due ts below (listed f entries) n k
     unfolding row_due and_then
-    row_goes_on e = rw (one_more, ← e)
+    row_goes_on e = rw (listed_turn f turn, ← e)
 
-  pub row_used : entries.end - entries.start ≡ 0 → used n k ≡ row_due ts below (list_from entries.start (entries.end - entries.start) f) n k
-  unfolding row_due list_from
-  row_used e = rw e
+  pub row_used : entries.end ≤ entries.start → used n k ≡ row_due ts below (listed f entries) n k
+  unfolding row_due
+  row_used over = rw (listed_over f entries over)
 
--- all symbols of a row are left at its first entry
-pub row_begins : (ts : List Token) (below : ℕ → ℕ → ℕ → Walked) (f : ℕ → Symbol) (first count n k : ℕ) →
-    row_due ts below (list_from first (first + count - first) f) n k ≡ row_due ts below (list_from first count f) n k
-row_begins ts below f first count n k =
-    let e : first + count - first ≡ count = omega arith in
-    rw e
+  -- all symbols of a row are left at its first entry
+  pub row_begins : (first count : ℕ) → entries.start ≡ first → entries.end ≡ first + count → row_due ts below (listed f entries) n k ≡ row_due ts below (list_from first count f) n k
+  row_begins first count start end = rw (listed_whole f first count start end)
 
 -- the walk is done
 module _ (tree tokens : List ℕ) (n k : ℕ) where

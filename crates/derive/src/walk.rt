@@ -60,13 +60,7 @@ pub fn node(formed: &Formed, levels: u16, nonterminal: u16, used: Used) -> Resul
     if production.count == 0 {
         return Ok(below);
     }
-    let first = production.first as u32;
-    row(
-        formed,
-        levels - 1,
-        first..first + production.count as u32,
-        below,
-    )
+    row(formed, levels - 1, production.entries(), below)
 }
 
 // A row of symbols is due, by the numbers of its entries.

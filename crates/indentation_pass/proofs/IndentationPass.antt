@@ -1,5 +1,5 @@
 -- The steps of the indentation pass, each a law: a node's number is written before those of its row, and those of a child before the rest of the row.
-use Rattle.std.proofs.Common.{◌≡◌, refl, sym, ◌∙◌, ℕ, ◌+◌, ◌*◌, ◌<◌, ◌≤◌, min, List, [], ◌∷◌, ◌++◌, length, get_or, slice_set, length-append, arith, Some, append_assoc}
+use Rattle.std.proofs.Common.{◌≡◌, sym, ◌∙◌, ℕ, ◌+◌, ◌*◌, ◌<◌, ◌≤◌, min, List, [], ◌∷◌, ◌++◌, length, get_or, slice_set, length-append, arith, Some, append_assoc}
 use Rattle.std.specs.declared.ops.Range.{Range}
 use Rattle.std.proofs.iter.Yields.{nat_range_steps}
 use Rattle.rules.specs.Grammar.{Symbol, Token}
@@ -11,29 +11,21 @@ use Rattle.rules.specs.Interval.{set_of, sets_of, row_sets, least, least_choice,
 use Rattle.rules.specs.declared.relation.Set.{Set}
 use Rattle.rules.proofs.Lists.{front_met}
 use Rattle.rules.proofs.Shapes.{length_sets}
-use Rattle.grammar_image.specs.GrammarImage.{left_of, first_of, count_of, symbol_at, production_at, ProductionIs, SymbolIs}
+use Rattle.grammar_image.specs.GrammarImage.{count_of, symbol_at, production_at, SymbolIs}
 use Rattle.grammar_image.specs.Kinds.{kind_of}
 use Rattle.grammar_image.specs.declared.Kind.TheVariants.{Terminal, Nonterminal}
-use Rattle.grammar_image.specs.declared.Production.{Production as ProductionRead}
 use Rattle.grammar_image.specs.declared.Symbol.{Symbol as SymbolRead}
 use Rattle.tree_image.specs.TreeImage.{node_count, node_at, nodes_of}
 use Rattle.tree_image.proofs.Lists.{length_nodes}
-use Rattle.layout.specs.Standing.{symbols, TreeListed, RowListed, SomeTreeListed, SomeRowListed}
+use Rattle.layout.specs.Standing.{TreeListed, RowListed, SomeTreeListed, SomeRowListed}
 use Rattle.indentation_pass.specs.Passes.{AllUpTo, NodeGiven, RowGiven}
 use Rattle.indentation_pass.proofs.LeastNumbers.{up_to_append, length_least, root_up_to, set_read}
-use Rattle.layout.proofs.Rows.{row_symbols, row_more, row_none, terminal_is, nonterminal_is, token_in, child_in}
+use Rattle.images.proofs.Rows.{listed_turn}
+use Rattle.layout.proofs.Rows.{row_at, row_none, node_listed, RowOf, entries_of, row_of_node, row_symbols, row_behind as behind_tree, token_in, token_stands, ChildNext, child_in, child_stands}
 use Rattle.layout.proofs.Standing.{Opened, opened, tree_opened, TokenFirst, token_first, ChildFirst, child_first, row_ended, node_within}
 use Rattle.layout.proofs.Written.{written_none, written_one, written_then}
 
--- the symbols of some entries
-abbrev pub row_at : List ℕ → Range ℕ → List Symbol
-row_at grammar entries = symbols grammar entries.start entries.end
-
 module _ (grammar tree : List ℕ) where
-  -- the symbols of a production's row
-  abbrev row_of : ProductionRead → List Symbol
-  row_of r = symbols grammar r.first (r.first + r.count)
-
   -- a tree and a row of the images, opened
   abbrev OpenedIn : List Token → ℕ → ℕ → Tree → Type 0
   OpenedIn = Opened (production_at grammar) (nodes_of tree)
@@ -59,24 +51,17 @@ module _ (grammar tree : List ℕ) where
     pub stands : SomeRowListed grammar tree (row_at grammar left) next
     pub completes : (final : List ℕ) (r : ℕ) → RowDone (row_at grammar left) next i sets now final r → RowDone (row_at grammar entries) n i sets old final r
 
-  -- where a tree stands, its node is one of the tree image
-  pub node_listed : {n : ℕ} → SomeTreeListed grammar tree n → n < node_count tree
-  node_listed {n} s = omega (arith, length_nodes tree, node_within _ _ _ n s.k s.there s.stands)
+  -- the row of node n
+  module _ (n : ℕ) {entries : Range ℕ} (row : RowOf grammar tree n entries) where
+    -- it stands behind the node
+    pub row_behind : SomeTreeListed grammar tree n → SomeRowListed grammar tree (row_at grammar entries) (n + 1)
+    row_behind s = let at = behind_tree grammar tree row s.stands in record { ts = s.ts; k = s.k; there = at.0; stands = at.1 }
 
-  -- the reader gives the production of node n as r
-  module _ (n : ℕ) {r : ProductionRead} (read : ProductionIs grammar (node_at tree n) r) where
-    behind : {ts : List Token} {k : ℕ} (T : Tree) → OpenedIn ts n k T → SomeRowListed grammar tree (row_of r) (n + 1)
-    behind {ts} {k} T (opened R h at) = record { ts = ts; k = k; there = R; stands = rw (← row_symbols grammar tree n h refl read refl refl) at }
-
-    -- its row stands behind it
-    pub row_behind : SomeTreeListed grammar tree n → SomeRowListed grammar tree (row_of r) (n + 1)
-    row_behind s = behind s.there (tree_opened _ _ _ _ _ s.there s.stands)
-
-    module _ {i next : ℕ} {sets old new : List ℕ} (room : node_count tree ≤ length old) (rest : RowDone (row_of r) (n + 1) i sets (slice_set old n i) new next) where
+    module _ {i next : ℕ} {sets old new : List ℕ} (room : node_count tree ≤ length old) (rest : RowDone (row_at grammar entries) (n + 1) i sets (slice_set old n i) new next) where
       opened_given : {ts : List Token} {k : ℕ} (T : Tree) → OpenedIn ts n k T → NodeGiven grammar T n i sets old new next
       unfolding nodes sets_of least_choice flat AllUpTo
       opened_given {ts} {k} T (opened R h at) =
-          let same = row_symbols grammar tree n h refl read refl refl in
+          let same = row_symbols grammar tree n h row in
           let below = rw (← same) at (rest ts k R (rw (← same) at)) in
           let inside : n < length old = omega (arith, length_nodes tree) in
           let twice : 2 * n + 2 ≡ 2 * (n + 1) = omega arith in
@@ -91,55 +76,37 @@ module _ (grammar tree : List ℕ) where
       node_given ts k T s = opened_given T (tree_opened _ _ _ _ _ T s)
 
   -- no symbol is left: nothing is written
-  pub row_end_given : {y to n i : ℕ} {sets old : List ℕ} → to ≤ y → RowDone (symbols grammar y to) n i sets old old n
+  pub row_end_given : (entries : Range ℕ) {n i : ℕ} {sets old : List ℕ} → entries.end ≤ entries.start → RowDone (row_at grammar entries) n i sets old old n
   unfolding row_nodes least_choices flats
-  row_end_given {y} {to} {n} {old = old} none ts k R at =
-      let over = row_none (symbol_at grammar) y to none in
+  row_end_given entries {n} {old = old} none ts k R at =
+      let over = row_none grammar entries none in
       rw (over, row_ended _ _ _ n k R (rw over at at)) (record { node = omega arith; given = λ after stand all. sym (written_none n old) })
 
   -- the row of node n is empty: its number alone is written
   pub empty_given : (n : ℕ) {i : ℕ} {sets old : List ℕ} → count_of grammar (node_at tree n) ≡ 0 → node_count tree ≤ length old → NodeDone n i sets old (slice_set old n i) (n + 1)
   empty_given n none room =
-      let p = node_at tree n in
-      node_given n {r = record { left = left_of grammar p; first = first_of grammar p; count = count_of grammar p }} (record { left = refl; first = refl; count = refl }) room (row_end_given (omega (arith, none)))
+      node_given n (row_of_node grammar tree n) room (row_end_given (entries_of grammar tree n) (omega (arith, none)))
 
   -- symbol y, which the reader gives as s, comes first of some entries, and the others are left
   module _ {from left : Range ℕ} {y : ℕ} {s : SymbolRead} (turn : nat_range_steps from (Some y) left) (symbol : SymbolIs grammar y s) where
-    more : y < from.end
-    more = omega (arith, turn.1.0, turn.1.1)
-
-    row_from : row_at grammar from ≡ symbols grammar y from.end
-    row_from = rw turn.1.1
-
-    row_left : row_at grammar left ≡ symbols grammar (y + 1) from.end
-    row_left = rw (turn.0, turn.1.2, turn.1.1)
-
-    -- so its row is that symbol, then the others
-    first_symbol : row_at grammar from ≡ symbol_at grammar y ∷ row_at grammar left
-    first_symbol = rw (row_from, row_left, row_more (symbol_at grammar) y from.end more)
-
     -- a terminal
     module _ {n : ℕ} (terminal : Terminal ≡ kind_of s.kind) where
-      token_here : {ts : List Token} {k : ℕ} (R : Row) → RowListed grammar tree ts (row_at grammar from) n k R → TokenIn ts (row_at grammar left) n k R
-      token_here R at = rw row_left (token_in grammar tree more symbol (terminal_is _ terminal) R (rw row_from at at))
-
-      after_token : {ts : List Token} {k : ℕ} (R : Row) → TokenIn ts (row_at grammar left) n k R → SomeRowListed grammar tree (row_at grammar left) n
-      after_token {ts} {k} R (token_first later h at) = record { ts = ts; k = k + 1; there = later; stands = at }
-
       -- the rest of the row stands at the same node
       row_after_token : SomeRowListed grammar tree (row_at grammar from) n → SomeRowListed grammar tree (row_at grammar left) n
-      row_after_token r = after_token r.there (token_here r.there r.stands)
+      row_after_token r =
+          let here = token_stands grammar tree turn symbol terminal r.stands in
+          record { ts = r.ts; k = r.k + 1; there = here.rest; stands = here.behind }
 
       module _ {i next : ℕ} {sets old new : List ℕ} (rest : RowDone (row_at grammar left) n i sets old new next) where
         first_token : {ts : List Token} {k : ℕ} (R : Row) → TokenIn ts (row_at grammar left) n k R → RowGiven grammar R (row_at grammar from) n i sets old new next
         unfolding row_nodes row_sets least_choices flats
         first_token {ts} {k} R (token_first later h at) =
             let below = rest ts (k + 1) later at in
-            rw first_symbol (record { node = below.node; given = below.given })
+            rw (listed_turn (symbol_at grammar) turn) (record { node = below.node; given = below.given })
 
         -- a token has no number
         token_given : RowDone (row_at grammar from) n i sets old new next
-        token_given ts k R at = first_token R (token_here R at)
+        token_given ts k R at = first_token R (token_in grammar tree turn symbol terminal R at)
 
       pub token_reached : {entries : Range ℕ} {m i : ℕ} {sets old now : List ℕ} → RowReached entries from m n i sets old now → RowReached entries left m n i sets old now
       token_reached row =
@@ -153,29 +120,24 @@ module _ (grammar tree : List ℕ) where
 
     -- a nonterminal
     module _ {n : ℕ} (nonterminal : Nonterminal ≡ kind_of s.kind) where
-      child_here : {ts : List Token} {k : ℕ} (R : Row) → RowListed grammar tree ts (row_at grammar from) n k R → ChildIn ts (row_at grammar left) n k R
-      child_here R at = rw row_left (child_in grammar tree more symbol (nonterminal_is _ nonterminal) R (rw row_from at at))
-
-      tree_of : {ts : List Token} {k : ℕ} (R : Row) → ChildIn ts (row_at grammar left) n k R → SomeTreeListed grammar tree n
-      tree_of {ts} {k} R (child_first T later there at) = record { ts = ts; k = k; there = T; stands = there }
+      child_here : (r : SomeRowListed grammar tree (row_at grammar from) n) → ChildNext grammar tree r.ts (row_at grammar left) n r.k
+      child_here r = child_stands grammar tree turn symbol nonterminal r.stands
 
       -- its tree stands there
       pub tree_here : SomeRowListed grammar tree (row_at grammar from) n → SomeTreeListed grammar tree n
-      tree_here r = tree_of r.there (child_here r.there r.stands)
+      tree_here r = let here = child_here r in record { ts = r.ts; k = r.k; there = here.child; stands = here.stands }
 
       -- so the next node is one of the tree image
       pub child_listed : SomeRowListed grammar tree (row_at grammar from) n → n < node_count tree
-      child_listed r = node_listed (tree_here r)
+      child_listed r = node_listed grammar tree (tree_here r).stands
 
       module _ {j next : ℕ} {sets old new : List ℕ} (first : NodeDone n j sets old new next) where
-        after_child : {ts : List Token} {k : ℕ} (R : Row) → ChildIn ts (row_at grammar left) n k R → SomeRowListed grammar tree (row_at grammar left) next × (n ≤ next)
-        after_child {ts} {k} R (child_first T later there at) =
-            let below = first ts k T there in
-            (record { ts = ts; k = k + length (tokens T); there = later; stands = rw below.node at }, omega (arith, below.node))
-
         -- and the rest of the row behind it
         row_after_child : SomeRowListed grammar tree (row_at grammar from) n → SomeRowListed grammar tree (row_at grammar left) next × (n ≤ next)
-        row_after_child r = after_child r.there (child_here r.there r.stands)
+        row_after_child r =
+            let here = child_here r in
+            let below = first r.ts r.k here.child here.stands in
+            (record { ts = r.ts; k = r.k + length (tokens here.child); there = here.rest; stands = rw below.node here.behind }, omega (arith, below.node))
 
         module _ {i last : ℕ} {S : Set} {final : List ℕ} (room : node_count tree ≤ length old) (low : S.low ≡ get_or sets (2 * n) 0) (high : S.high ≡ get_or sets (2 * n + 1) 0)
             (number : j ≡ min (least s.relation i S) unbounded) (rest : RowDone (row_at grammar left) next i sets new final last) where
@@ -187,7 +149,7 @@ module _ (grammar tree : List ℕ) where
               let w = flats (least_choices G unbounded later (row_at grammar left) i) in
               let above = first ts k T there in
               let below = rest ts (k + length (tokens T)) later (rw above.node at) in
-              rw first_symbol (record {
+              rw (listed_turn (symbol_at grammar) turn) (record {
                 node = rw length-append (omega (arith, above.node, below.node));
                 given = λ after stand all.
                     let x = row_sets G unbounded later ++ after in
@@ -205,7 +167,7 @@ module _ (grammar tree : List ℕ) where
 
           -- its numbers are written before those of the rest
           child_given : RowDone (row_at grammar from) n i sets old final last
-          child_given ts k R at = first_child R (child_here R at)
+          child_given ts k R at = first_child R (child_in grammar tree turn symbol nonterminal R at)
 
         pub child_reached : {entries : Range ℕ} {m i : ℕ} {S : Set} {start : List ℕ} → node_count tree ≤ length start → S.low ≡ get_or sets (2 * n) 0 → S.high ≡ get_or sets (2 * n + 1) 0 →
             j ≡ min (least s.relation i S) unbounded → length new ≡ length old → RowReached entries from m n i sets start old → RowReached entries left m next i sets start new

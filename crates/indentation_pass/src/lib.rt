@@ -26,11 +26,9 @@ pub fn node(nodes: &FormedTree, sets: &[u32], indentations: &mut [u32], n: u16, 
     ensures { NodeNumber nodes.now.grammar.now nodes.now.tree.now n i
         sets.now indentations.old indentations.new result }
 {
-    indentations[n as usize] = i;
+    indentations[usize::from(n)] = i;
     let production = nodes.production_of(n);
-    let first = production.first as u32;
-    let end = first + (production.count as u32);
-    row(nodes, sets, indentations, first..end, n + 1, i)
+    row(nodes, sets, indentations, production.entries(), n + 1, i)
 }
 
 // Gives the nodes of a row, which the symbols of these entries name, their least numbers below a node
@@ -61,7 +59,7 @@ fn row(
             Kind::Nonterminal => {
                 let j = least(symbol.relation, i, set_at(sets, next));
                 if nodes.is_empty(next) {
-                    indentations[next as usize] = j;
+                    indentations[usize::from(next)] = j;
                     next += 1;
                 } else {
                     next = node(nodes, sets, indentations, next, j);

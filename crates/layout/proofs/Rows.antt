@@ -1,68 +1,97 @@
--- The row of a node as the code reads it: the symbols from an entry y up to `end`.
-use Rattle.std.proofs.Common.{◌≡◌, ◌≢◌, refl, ℕ, zero, suc, ◌+◌, ◌-◌, ◌<◌, ◌≤◌, List, [], ◌∷◌, length, get_or, arith, add-one, leb-true}
-use Rattle.std.proofs.Math.Dec.{eqb-suc-zero}
-use Rattle.rules.specs.Limits.{max_nodes}
+-- The row of a node as the code reads it, in lists where a right tree stands.
+use Rattle.std.proofs.Common.{◌≡◌, refl, ◌∙◌, ℕ, ◌+◌, ◌<◌, ◌≤◌, List, [], length, get_or, arith, Some}
+use Rattle.std.specs.declared.ops.Range.{Range}
+use Rattle.std.proofs.iter.Yields.{nat_range_steps}
 use Rattle.rules.specs.Grammar.{Symbol, Token}
-use Rattle.rules.specs.Tree.{Row}
-use Rattle.fields.specs.Fields.{WellFormed, list_from}
-use Rattle.fields.proofs.Formed.{formed_parts}
-use Rattle.grammar_image.specs.GrammarImage.{production_count, symbol_at, production_at, ProductionIs, SymbolIs}
+use Rattle.rules.specs.Tree.{Tree, Row}
+use Rattle.rules.specs.Derivation.{nodes, tokens}
+use Rattle.grammar_image.specs.GrammarImage.{first_of, count_of, symbol_at, production_at, ProductionIs, SymbolIs}
 use Rattle.grammar_image.specs.Kinds.{kind_of}
 use Rattle.grammar_image.specs.declared.Kind.TheVariants.{Terminal, Nonterminal}
 use Rattle.grammar_image.specs.declared.Production.{Production as ProductionRead}
 use Rattle.grammar_image.specs.declared.Symbol.{Symbol as SymbolRead}
-use Rattle.tree_image.specs.TreeImage.{node_count, node_at, nodes_of, tree_fields, header_fields, records_fields}
+use Rattle.tree_image.specs.TreeImage.{node_count, node_at, nodes_of}
 use Rattle.tree_image.proofs.Lists.{length_nodes, node_of}
-use Rattle.images.specs.Formed.{FormedTree}
-use Rattle.layout.specs.Standing.{symbols, RowListed}
-use Rattle.layout.proofs.Standing.{TokenFirst, token_first_lem, ChildFirst, child_first_lem}
+use Rattle.images.proofs.Rows.{listed_turn, listed_over, listed_whole, terminal_is, nonterminal_is}
+use Rattle.layout.specs.Standing.{symbols, TreeListed, RowListed}
+use Rattle.layout.proofs.Standing.{Opened, opened, tree_opened, TokenFirst, token_first, token_first_lem, ChildFirst, child_first, child_first_lem, node_within}
 
--- node n has production p, which the reader gives as r: its symbols are those from y to before `end`
-pub row_symbols : (grammar tree : List ℕ) (n : ℕ) {p y end : ℕ} {r : ProductionRead} → n < length (nodes_of tree) → p ≡ node_at tree n → ProductionIs grammar p r →
-    y ≡ r.first → end ≡ r.first + r.count → (production_at grammar (get_or (nodes_of tree) n 0)).right ≡ list_from y (end - y) (symbol_at grammar)
-unfolding production_at
-row_symbols grammar tree n {y = y} {end = end} {r = r} h node read first last =
-    let count : end - y ≡ r.count = omega arith in
-    rw (node_of tree n (omega (arith, length_nodes tree)), ← node, count, first, read.first, read.count)
-
--- the first symbol, and the rest
-pub row_more : (f : ℕ → Symbol) (y end : ℕ) → y < end → list_from y (end - y) f ≡ f y ∷ list_from (y + 1) (end - (y + 1)) f
-unfolding list_from
-row_more f y end h =
-    let e : end - y ≡ suc (end - (y + 1)) = omega arith in
-    rw (e, add-one)
+-- the symbols of some entries
+abbrev pub row_at : List ℕ → Range ℕ → List Symbol
+row_at grammar entries = symbols grammar entries.start entries.end
 
 -- no symbol is left
-pub row_none : (f : ℕ → Symbol) (y end : ℕ) → end ≤ y → list_from y (end - y) f ≡ []
-unfolding list_from
-row_none f y end h =
-    let e : end - y ≡ 0 = omega arith in
-    rw e
+pub row_none : (grammar : List ℕ) (entries : Range ℕ) → entries.end ≤ entries.start → row_at grammar entries ≡ []
+row_none grammar = listed_over (symbol_at grammar)
 
--- the number of nodes fits 16 bits
-pub nodes_fit : (grammar tree : List ℕ) → FormedTree grammar tree → node_count tree < 65536
-unfolding tree_fields header_fields WellFormed
-nodes_fit grammar tree formed =
-    let header = (formed_parts (header_fields tree) (records_fields (production_count grammar) tree) formed.tree_formed).0 in
-    omega (arith, leb-true (node_count tree) max_nodes header.1.1.0)
+module _ (grammar tree : List ℕ) where
+  -- where a tree stands, its node is one of the tree image
+  pub node_listed : {ts : List Token} {n k : ℕ} {T : Tree} → TreeListed grammar tree ts n k T → n < node_count tree
+  node_listed at = omega (arith, length_nodes tree, node_within _ _ _ _ _ _ at)
 
--- what stands at a symbol is told by its kind
-pub terminal_is : (kind : ℕ) → Terminal ≡ kind_of kind → kind ≡ 0
-terminal_is zero is = refl
-terminal_is (suc k) is =
-    let other : Terminal ≡ Nonterminal = rw eqb-suc-zero at is in
-    cc
+  -- these entries are the row of node n
+  pub record RowOf (n : ℕ) (entries : Range ℕ) : Type 0 where
+    pub start : entries.start ≡ first_of grammar (node_at tree n)
+    pub end : entries.end ≡ first_of grammar (node_at tree n) + count_of grammar (node_at tree n)
 
-pub nonterminal_is : (kind : ℕ) → Nonterminal ≡ kind_of kind → kind ≢ 0
-nonterminal_is zero is e = cc
-nonterminal_is (suc k) is e = cc
+  -- as the readers of its production and of that production's entries tell
+  pub row_of : {n : ℕ} {r : ProductionRead} {entries : Range ℕ} → ProductionIs grammar (node_at tree n) r → entries.start ≡ r.first → entries.end ≡ r.first + r.count → RowOf n entries
+  row_of read start end = record { start = start ∙ read.first; end = omega (arith, end, read.first, read.count) }
 
--- symbol y, which the reader gives as s, comes first in a row that stands
-module _ (grammar tree : List ℕ) {ts : List Token} {y to n k : ℕ} {s : SymbolRead} (more : y < to) (symbol : SymbolIs grammar y s) where
-  -- a terminal: the token that is next
-  pub token_in : s.kind ≡ 0 → (R : Row) → RowListed grammar tree ts (symbols grammar y to) n k R → TokenFirst (production_at grammar) (nodes_of tree) ts (symbols grammar (y + 1) to) n k R
-  token_in terminal R at = token_first_lem _ _ _ (symbol_at grammar y) (symbols grammar (y + 1) to) n k R (omega (arith, symbol.kind)) (rw (row_more (symbol_at grammar) y to more) at at)
+  -- so they hold the symbols on its production's right
+  pub row_symbols : (n : ℕ) {entries : Range ℕ} → n < length (nodes_of tree) → RowOf n entries → (production_at grammar (get_or (nodes_of tree) n 0)).right ≡ row_at grammar entries
+  unfolding production_at
+  row_symbols n h row =
+      let p = node_at tree n in
+      rw (node_of tree n (omega (arith, length_nodes tree)), listed_whole (symbol_at grammar) (first_of grammar p) (count_of grammar p) row.start row.end)
 
-  -- a nonterminal: the tree that is next
-  pub child_in : (s.kind ≡ 0 → ⊥) → (R : Row) → RowListed grammar tree ts (symbols grammar y to) n k R → ChildFirst (production_at grammar) (nodes_of tree) ts (symbols grammar (y + 1) to) n k R
-  child_in nonterminal R at = child_first_lem _ _ _ (symbol_at grammar y) (symbols grammar (y + 1) to) n k R (λ e. nonterminal (omega (arith, symbol.kind))) (rw (row_more (symbol_at grammar) y to more) at at)
+  -- as its production's fields are
+  abbrev pub entries_of : ℕ → Range ℕ
+  entries_of n =
+      let p = node_at tree n in
+      record { start = first_of grammar p; end = first_of grammar p + count_of grammar p }
+
+  pub row_of_node : (n : ℕ) → RowOf n (entries_of n)
+  row_of_node n = record { start = refl; end = refl }
+
+  behind_node : {ts : List Token} {n k : ℕ} {entries : Range ℕ} (T : Tree) → RowOf n entries → Opened (production_at grammar) (nodes_of tree) ts n k T → (R : Row) × RowListed grammar tree ts (row_at grammar entries) (n + 1) k R
+  behind_node {n = n} T row (opened R h at) = (R, rw (← row_symbols n h row) at)
+
+  -- where a tree stands, the row of its node stands behind the node
+  pub row_behind : {ts : List Token} {n k : ℕ} {entries : Range ℕ} {T : Tree} → RowOf n entries → TreeListed grammar tree ts n k T → (R : Row) × RowListed grammar tree ts (row_at grammar entries) (n + 1) k R
+  row_behind {n = n} {k = k} {T = T} row at = behind_node T row (tree_opened _ _ _ n k T at)
+
+  -- a token is next, and the symbols ss stand behind it
+  pub record TokenNext (ts : List Token) (ss : List Symbol) (n k : ℕ) : Type 0 where
+    pub there : k < length ts
+    pub rest : Row
+    pub behind : RowListed grammar tree ts ss n (k + 1) rest
+
+  token_next : {ts : List Token} {ss : List Symbol} {n k : ℕ} (R : Row) → TokenFirst (production_at grammar) (nodes_of tree) ts ss n k R → TokenNext ts ss n k
+  token_next R (token_first rest h at) = record { there = h; rest = rest; behind = at }
+
+  -- a tree is next, and the symbols ss stand behind it
+  pub record ChildNext (ts : List Token) (ss : List Symbol) (n k : ℕ) : Type 0 where
+    pub child : Tree
+    pub stands : TreeListed grammar tree ts n k child
+    pub rest : Row
+    pub behind : RowListed grammar tree ts ss (n + length (nodes child)) (k + length (tokens child)) rest
+
+  child_next : {ts : List Token} {ss : List Symbol} {n k : ℕ} (R : Row) → ChildFirst (production_at grammar) (nodes_of tree) ts ss n k R → ChildNext ts ss n k
+  child_next R (child_first T rest there at) = record { child = T; stands = there; rest = rest; behind = at }
+
+  -- symbol y, which the reader gives as s, comes first of some entries, and the others are left
+  module _ {ts : List Token} {from left : Range ℕ} {y n k : ℕ} {s : SymbolRead} (turn : nat_range_steps from (Some y) left) (symbol : SymbolIs grammar y s) where
+    -- a terminal: the token that is next
+    pub token_in : Terminal ≡ kind_of s.kind → (R : Row) → RowListed grammar tree ts (row_at grammar from) n k R → TokenFirst (production_at grammar) (nodes_of tree) ts (row_at grammar left) n k R
+    token_in terminal R at = token_first_lem _ _ _ (symbol_at grammar y) (row_at grammar left) n k R (omega (arith, symbol.kind, terminal_is _ terminal)) (rw (listed_turn (symbol_at grammar) turn) at at)
+
+    pub token_stands : Terminal ≡ kind_of s.kind → {R : Row} → RowListed grammar tree ts (row_at grammar from) n k R → TokenNext ts (row_at grammar left) n k
+    token_stands terminal {R} at = token_next R (token_in terminal R at)
+
+    -- a nonterminal: the tree that is next
+    pub child_in : Nonterminal ≡ kind_of s.kind → (R : Row) → RowListed grammar tree ts (row_at grammar from) n k R → ChildFirst (production_at grammar) (nodes_of tree) ts (row_at grammar left) n k R
+    child_in nonterminal R at = child_first_lem _ _ _ (symbol_at grammar y) (row_at grammar left) n k R (λ e. nonterminal_is _ nonterminal (omega (arith, symbol.kind))) (rw (listed_turn (symbol_at grammar) turn) at at)
+
+    pub child_stands : Nonterminal ≡ kind_of s.kind → {R : Row} → RowListed grammar tree ts (row_at grammar from) n k R → ChildNext ts (row_at grammar left) n k
+    child_stands nonterminal {R} at = child_next R (child_in nonterminal R at)

@@ -13,7 +13,7 @@ pub fn store(sets: &mut [u32], n: u16, set: Set)
     requires { 2 * n + 2 ≤ length sets.old }
     ensures { sets.new ≡ written_at (2 * n) (set.low ∷ set.high ∷ []) sets.old }
 {
-    let at = 2 * (n as usize);
+    let at = 2 * usize::from(n);
     sets[at] = set.low;
     sets[at + 1] = set.high;
 }
@@ -24,7 +24,7 @@ pub fn set_at(sets: &[u32], n: u16) -> Set
     ensures low { result.low ≡ get_or sets.now (2 * n) 0 }
     ensures high { result.high ≡ get_or sets.now (2 * n + 1) 0 }
 {
-    let low = 2 * (n as usize);
+    let low = 2 * usize::from(n);
     Set {
         low: sets[low],
         high: sets[low + 1],
@@ -38,9 +38,6 @@ pub fn highest_empty(sets: &[u32], count: u16) -> u16
 {
     (0..count)
         .rev()
-        .find(|&n| {
-            let set = set_at(sets, n);
-            set.high < set.low
-        })
+        .find(|&n| set_at(sets, n).is_empty())
         .unwrap_or(0)
 }

@@ -39,8 +39,7 @@ fn node(formed: &Formed, sets: &mut [u32], next: Next) -> Next
     ensures { NodeSet (images_of formed.now) next sets.old sets.new result }
 {
     let production = formed.nodes.production_of(next.node());
-    let first = production.first as u32;
-    row(formed, sets, first..first + (production.count as u32), next)
+    row(formed, sets, production.entries(), next)
 }
 
 // Writes the sets of a row: those of its nodes, which the symbols of `entries` name, and then that of

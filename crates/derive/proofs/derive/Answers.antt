@@ -2,7 +2,8 @@
 use Rattle.std.proofs.Common.{ap, refl, ◌∙◌, arith}
 use Rattle.grammar_image.proofs.Within.{header_within}
 use Rattle.derive.specs.Answers.{derivation_answer}
-use Rattle.derive.proofs.Walking.{handed, refused_done, walk_done_lem}
+use Rattle.fields.proofs.Searching.{handed}
+use Rattle.derive.proofs.Walking.{refused_done, walk_done_lem}
 use Rattle.derive.proofs.derive.Goals as goal
 
 pub counts_at-counts-requires : goal.counts_at-counts-requires

@@ -1,27 +1,31 @@
-use Rattle.std.proofs.Common.{refl, sym, ◌∙◌, arith, eqb-true}
+use Rattle.std.proofs.Common.{◌≡◌, refl, sym, ◌∙◌, arith, eqb-true}
 use Rattle.std.proofs.Math.ListN.{length-set}
-use Rattle.layout.proofs.Rows.{nodes_fit}
-use Rattle.indentation_pass.proofs.IndentationPass.{node_listed, row_behind, node_given, row_end_given, empty_given, token_reached, tree_here, child_listed, child_reached}
+use Rattle.images.proofs.Within.{nodes_fit}
+use Rattle.layout.proofs.Rows.{node_listed, row_of}
+use Rattle.indentation_pass.proofs.IndentationPass.{row_behind, node_given, row_end_given, empty_given, token_reached, tree_here, child_listed, child_reached}
 use Rattle.indentation_pass.proofs.+node_row.Goals as goal
 
-pub node-bounds-indentations-n : goal.node-bounds-indentations-n
-node-bounds-indentations-n t c = omega (arith, node_listed _ _ c.requires.stands)
+pub node-bounds-indentations-from : goal.node-bounds-indentations-from
+node-bounds-indentations-from t c = omega (arith, node_listed _ _ c.requires.stands.stands)
 
 pub node-production_of-production-requires : goal.node-production_of-production-requires
-node-production_of-production-requires t c = node_listed _ _ c.requires.stands
+node-production_of-production-requires t c = node_listed _ _ c.requires.stands.stands
 
 pub node-overflow_add-n : goal.node-overflow_add-n
-node-overflow_add-n t c = omega (arith, node_listed _ _ c.requires.stands, nodes_fit _ _ c.args.nodes.now.formed)
+node-overflow_add-n t c = omega (arith, node_listed _ _ c.requires.stands.stands, nodes_fit _ _ c.args.nodes.now.formed)
 
 pub node-row-requires : goal.node-row-requires
 node-row-requires t c =
-    let read = c.production_of-production.ensures in (
-      omega (arith, node_listed _ _ c.requires.stands),
-      (read.row, (row_behind _ _ _ read.production c.requires.stands, (c.requires.sets, rw length-set c.requires.room))),
+    let read = c.production_of-production.ensures in
+    let row = row_of _ _ read.production c.entries.ensures.start c.entries.ensures.end in (
+      omega (arith, node_listed _ _ c.requires.stands.stands),
+      (omega (arith, read.row, c.entries.ensures.end), (row_behind _ _ _ row c.requires.stands, (c.requires.sets, rw length-set c.requires.room))),
     )
 
 pub node-returns : goal.node-returns
-node-returns t c = node_given _ _ _ c.production_of-production.ensures.production c.requires.room c.row.ensures
+node-returns t c =
+    let place : c.from.result ≡ c.args.n = omega arith in
+    node_given _ _ _ (row_of _ _ c.production_of-production.ensures.production c.entries.ensures.start c.entries.ensures.end) c.requires.room (rw place at c.row.ensures)
 
 pub row-loop-y-init : goal.row-loop-y-init
 row-loop-y-init t c =
@@ -39,8 +43,8 @@ row-set_at-requires t c =
 pub row-is_empty-requires : goal.row-is_empty-requires
 row-is_empty-requires t c = child_listed _ _ c.in-Some.ensures.steps c.symbol_at-symbol.ensures c.in-Nonterminal.ensures c.loop-y.invariant.stands
 
-pub row-bounds-indentations-next : goal.row-bounds-indentations-next
-row-bounds-indentations-next t c =
+pub row-bounds-indentations-from : goal.row-bounds-indentations-from
+row-bounds-indentations-from t c =
     omega (arith, child_listed _ _ c.in-Some.ensures.steps c.symbol_at-symbol.ensures c.in-Nonterminal.ensures c.loop-y.invariant.stands, c.requires.room, c.loop-y.invariant.places)
 
 pub row-overflow_add-next : goal.row-overflow_add-next
@@ -50,14 +54,15 @@ row-overflow_add-next t c =
 -- a child is done, with its least number: the symbols behind it are left
 pub row-loop-y-preserved-then-is_empty : goal.row-loop-y-preserved-then-is_empty
 row-loop-y-preserved-then-is_empty t c =
-    child_reached _ _ c.in-Some.ensures.steps c.symbol_at-symbol.ensures c.in-Nonterminal.ensures
+    let place : c.from.result ≡ c.loop-y.next = omega arith in
+    rw place (child_reached _ _ c.in-Some.ensures.steps c.symbol_at-symbol.ensures c.in-Nonterminal.ensures
     (empty_given _ _ _ (eqb-true _ 0 (sym c.is_empty.ensures ∙ c.if-is_empty.true)) (omega (arith, c.requires.room, c.loop-y.invariant.places)))
-    c.requires.room c.set_at.ensures.low c.set_at.ensures.high c.least-j.ensures (length-set _ _ _) c.loop-y.invariant
+    c.requires.room c.set_at.ensures.low c.set_at.ensures.high c.least-j.ensures (length-set _ _ _) c.loop-y.invariant)
 
 pub row-node-next-requires : goal.row-node-next-requires
 row-node-next-requires t c =
     let tree = tree_here _ _ c.in-Some.ensures.steps c.symbol_at-symbol.ensures c.in-Nonterminal.ensures c.loop-y.invariant.stands in
-    (omega (arith, node_listed _ _ tree, c.loop-y.invariant.nodes), (tree, (c.requires.sets, omega (arith, c.requires.room, c.loop-y.invariant.places))))
+    (omega (arith, node_listed _ _ tree.stands, c.loop-y.invariant.nodes), (tree, (c.requires.sets, omega (arith, c.requires.room, c.loop-y.invariant.places))))
 
 pub row-loop-y-preserved : goal.row-loop-y-preserved
 row-loop-y-preserved t c =
@@ -65,4 +70,4 @@ row-loop-y-preserved t c =
     c.requires.room c.set_at.ensures.low c.set_at.ensures.high c.least-j.ensures (omega arith) c.loop-y.invariant
 
 pub row-returns : goal.row-returns
-row-returns t c = c.loop-y.invariant.completes _ _ (row_end_given _ _ (omega (arith, c.in-None.ensures.steps)))
+row-returns t c = c.loop-y.invariant.completes _ _ (row_end_given _ _ _ (omega (arith, c.in-None.ensures.steps)))

@@ -1,6 +1,5 @@
 -- A row's loop: what is due is read, and what it leaves is met before the rest of the row.
-use Rattle.std.proofs.Common.{refl, sym, ap, ◌∙◌, ℕ, ◌<◌, ◌≤◌, ◌*◌, [], ◌∷◌, length, arith}
-use borrow.Author.Tests.{eqb-true}
+use Rattle.std.proofs.Common.{refl, sym, ap, ◌∙◌, ℕ, ◌<◌, ◌≤◌, ◌*◌, [], ◌∷◌, length, arith, eqb-true}
 use Rattle.rules.specs.Stored.{unbounded}
 use Rattle.rules.specs.Interval.{meet, child_leaves}
 use Rattle.grammar_image.specs.GrammarImage.{count_of}
@@ -9,25 +8,29 @@ use Rattle.tree_image.specs.TreeImage.{node_count, node_at}
 use Rattle.images.specs.Held.{images_of}
 use Rattle.layout.specs.Standing.{SomeTree}
 use Rattle.layout.specs.Written.{written_at}
+use Rattle.images.proofs.Within.{nodes_fit, tokens_fit}
+use Rattle.layout.proofs.Rows.{node_listed, row_of}
 use Rattle.set_pass.specs.Next.{next_node, next_token}
-use Rattle.set_pass.proofs.SetPass.{node_there, nodes_fit, tokens_fit, first_due, row_behind, node_passed, row_stored, row_end_passed, empty_set_lem, empty_passed, child_set, token_within, row_after_token, token_passed, tree_here, next_behind, row_after_child, child_passed}
+use Rattle.set_pass.proofs.SetPass.{row_behind, node_passed, row_stored, row_end_passed, empty_set_lem, empty_passed, child_set, token_within, row_after_token, token_passed, tree_here, next_behind, row_after_child, child_passed}
 use Rattle.set_pass.proofs.+node_row.Goals as goal
 use Rattle.set_pass.proofs.+node_row.Goals.{row-In-Terminal, row-In-Nonterminal}
 
 pub node-production_of-production-requires : goal.node-production_of-production-requires
-node-production_of-production-requires t c = omega (arith, node_there _ c.requires.stands)
+node-production_of-production-requires t c = omega (arith, node_listed _ _ c.requires.stands.stands)
 
 pub node-row-requires : goal.node-row-requires
 node-row-requires t c =
-    let there = node_there _ c.requires.stands in
-    let read = rw c.node.ensures at c.production_of-production.ensures.production in
-    (omega arith, (c.production_of-production.ensures.row, (there, (row_behind _ read c.requires.stands, c.requires.room))))
+    let read = c.production_of-production.ensures in
+    let row = row_of _ _ (rw c.node.ensures at read.production) c.entries.ensures.start c.entries.ensures.end in
+    let there = node_listed _ _ c.requires.stands.stands in
+    (omega arith, (omega (arith, read.row, c.entries.ensures.end), (there, (row_behind _ row c.requires.stands, c.requires.room))))
 
 pub node-returns : goal.node-returns
-node-returns t c = node_passed _ (rw c.node.ensures at c.production_of-production.ensures.production) c.row.ensures
+node-returns t c =
+    node_passed _ (row_of _ _ (rw c.node.ensures at c.production_of-production.ensures.production) c.entries.ensures.start c.entries.ensures.end) c.row.ensures
 
 pub row-past_node-next-requires : goal.row-past_node-next-requires
-row-past_node-next-requires t c = omega (arith, nodes_fit (images_of c.args.formed.now) c.args.formed.now.formed)
+row-past_node-next-requires t c = omega (arith, nodes_fit _ _ c.args.formed.now.formed.nodes_formed)
 
 pub row-loop-y-init : goal.row-loop-y-init
 row-loop-y-init t c =
@@ -47,7 +50,7 @@ row-symbol_at-symbol-requires t c = omega (arith, c.in-Some.ensures.steps, c.loo
 token_here : (t : ℕ) (c : row-In-Terminal t) → next_token c.loop-y.next < token_count c.args.formed.now.tokens.now
 token_here t c =
     let s = images_of c.args.formed.now in
-    token_within s (first_due s c.in-Some.ensures.steps c.symbol_at-symbol.ensures) c.in-Terminal.ensures c.loop-y.invariant.stands
+    token_within s c.in-Some.ensures.steps c.symbol_at-symbol.ensures c.in-Terminal.ensures c.loop-y.invariant.stands
 
 pub row-token_at-token-requires : goal.row-token_at-token-requires
 row-token_at-token-requires t c = omega (arith, token_here t (goal.at.row-token_at-token-requires t c).In-Terminal)
@@ -55,34 +58,34 @@ row-token_at-token-requires t c = omega (arith, token_here t (goal.at.row-token_
 pub row-past_token-next-requires : goal.row-past_token-next-requires
 row-past_token-next-requires t c =
     let here = token_here t (goal.at.row-past_token-next-requires t c).In-Terminal in
-    omega (arith, tokens_fit (images_of c.args.formed.now) c.args.formed.now.formed)
+    omega (arith, tokens_fit _ c.args.formed.now.formed)
 
 pub row-loop-y-preserved-in-Terminal : goal.row-loop-y-preserved-in-Terminal
 row-loop-y-preserved-in-Terminal t c =
     let s = images_of c.args.formed.now in
     let steps = c.in-Some.ensures.steps in
-    let due = first_due s steps c.symbol_at-symbol.ensures in
+    let symbol = c.symbol_at-symbol.ensures in
     let terminal = c.in-Terminal.ensures in
     let inv = c.loop-y.invariant in
     let past = c.past_token-next.ensures in
     let token = rw c.token.ensures at c.token_at-token.ensures in
     let leaves = c.meet-left.ensures ∙ ap (meet _) c.token_leaves.ensures in
-    rw (steps.0, steps.1.2) (record {
+    record {
       behind = omega arith;
-      within = inv.within;
-      stands = rw (past.0, past.1) (row_after_token s due terminal inv.stands);
-      gives = λ final last r rest. inv.gives final last r (token_passed s due terminal token leaves (rw (← past.0, ← past.1) rest));
-    })
+      within = rw steps.0 inv.within;
+      stands = rw (past.0, past.1) (row_after_token s steps symbol terminal inv.stands);
+      gives = λ final last r rest. inv.gives final last r (token_passed s steps symbol terminal token leaves (rw (← past.0, ← past.1) rest));
+    }
 
 -- a nonterminal is due: its tree stands there
 child_here : (t : ℕ) (c : row-In-Nonterminal t) → SomeTree (images_of c.args.formed.now) (next_node c.loop-y.next) (next_token c.loop-y.next)
 child_here t c =
     let s = images_of c.args.formed.now in
-    tree_here s (first_due s c.in-Some.ensures.steps c.symbol_at-symbol.ensures) c.in-Nonterminal.ensures c.loop-y.invariant.stands
+    tree_here s c.in-Some.ensures.steps c.symbol_at-symbol.ensures c.in-Nonterminal.ensures c.loop-y.invariant.stands
 
 -- so there is a node, and room for its set
 node_here : (t : ℕ) (c : row-In-Nonterminal t) → next_node c.loop-y.next < node_count c.args.formed.now.nodes.tree.now
-node_here t c = node_there (images_of c.args.formed.now) (child_here t c)
+node_here t c = node_listed _ _ (child_here t c).stands
 
 pub row-is_empty-requires : goal.row-is_empty-requires
 row-is_empty-requires t c = omega (arith, node_here t (goal.at.row-is_empty-requires t c).In-Nonterminal)
@@ -95,13 +98,13 @@ row-store-requires t c =
 pub row-past_node-next-requires-then-is_empty : goal.row-past_node-next-requires-then-is_empty
 row-past_node-next-requires-then-is_empty t c =
     let here = node_here t (goal.at.row-past_node-next-requires-then-is_empty t c).In-Nonterminal in
-    omega (arith, nodes_fit (images_of c.args.formed.now) c.args.formed.now.formed)
+    omega (arith, nodes_fit _ _ c.args.formed.now.formed.nodes_formed)
 
 pub row-loop-y-preserved-then-is_empty : goal.row-loop-y-preserved-then-is_empty
 row-loop-y-preserved-then-is_empty t c =
     let s = images_of c.args.formed.now in
     let steps = c.in-Some.ensures.steps in
-    let due = first_due s steps c.symbol_at-symbol.ensures in
+    let symbol = c.symbol_at-symbol.ensures in
     let nonterminal = c.in-Nonterminal.ensures in
     let inv = c.loop-y.invariant in
     let past = c.past_node-next-then-is_empty.ensures in
@@ -112,12 +115,12 @@ row-loop-y-preserved-then-is_empty t c =
     let all = c.all.result in
     let passed = empty_passed s _ _ _ none past.0 past.1 c.all.ensures (omega arith) (c.store.ensures ∙ ap (λ (n : ℕ). written_at (2 * n) (all.low ∷ all.high ∷ []) c.loop-y.sets) number) in
     let leaves = c.meet-left-then-is_empty.ensures ∙ ap (meet _) (c.child_leaves.ensures ∙ ap (child_leaves unbounded _) c.all-then-is_empty.ensures) in
-    rw (steps.0, steps.1.2) (record {
+    record {
       behind = omega arith;
-      within = inv.within;
-      stands = row_after_child s due nonterminal passed inv.stands;
-      gives = λ final last r rest. inv.gives final last r (child_passed s due nonterminal passed room (empty_set_lem s _ _ _ none past.0 past.1) leaves rest);
-    })
+      within = rw steps.0 inv.within;
+      stands = row_after_child s steps symbol nonterminal passed inv.stands;
+      gives = λ final last r rest. inv.gives final last r (child_passed s steps symbol nonterminal passed room (empty_set_lem s _ _ _ none past.0 past.1) leaves rest);
+    }
 
 pub row-node-next-requires : goal.row-node-next-requires
 row-node-next-requires t c =
@@ -134,7 +137,7 @@ pub row-loop-y-preserved : goal.row-loop-y-preserved
 row-loop-y-preserved t c =
     let s = images_of c.args.formed.now in
     let steps = c.in-Some.ensures.steps in
-    let due = first_due s steps c.symbol_at-symbol.ensures in
+    let symbol = c.symbol_at-symbol.ensures in
     let nonterminal = c.in-Nonterminal.ensures in
     let inv = c.loop-y.invariant in
     let passed = c.node-next.ensures in
@@ -143,15 +146,15 @@ row-loop-y-preserved t c =
     let room : 2 * node_count s.tree ≤ length c.loop-y.sets = omega arith in
     let below = child_set s (omega arith) (rw number at c.set_at.ensures.low) (rw number at c.set_at.ensures.high) passed in
     let leaves = c.meet-left-else-is_empty.ensures ∙ ap (meet _) c.child_leaves-else-is_empty.ensures in
-    rw (steps.0, steps.1.2) (record {
-      behind = omega (arith, next_behind s due nonterminal passed inv.stands);
-      within = inv.within;
-      stands = row_after_child s due nonterminal passed inv.stands;
-      gives = λ final last r rest. inv.gives final last r (child_passed s due nonterminal passed room below leaves rest);
-    })
+    record {
+      behind = omega (arith, next_behind s steps symbol nonterminal passed inv.stands);
+      within = rw steps.0 inv.within;
+      stands = row_after_child s steps symbol nonterminal passed inv.stands;
+      gives = λ final last r rest. inv.gives final last r (child_passed s steps symbol nonterminal passed room below leaves rest);
+    }
 
 pub row-returns : goal.row-returns
 row-returns t c =
     let none : c.loop-y.y-iterator.end ≤ c.loop-y.y-iterator.start = omega (arith, c.in-None.ensures.steps) in
-    row_stored _ refl (omega arith) (c.loop-y.invariant.gives _ _ _ (row_end_passed _ none refl refl))
+    row_stored _ refl (omega arith) (c.loop-y.invariant.gives _ _ _ (row_end_passed _ _ none refl refl))
     (rw c.node.ensures at c.store-2.ensures)

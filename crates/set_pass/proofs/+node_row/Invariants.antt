@@ -6,7 +6,8 @@ use Rattle.rules.specs.declared.relation.Set.{Set}
 use Rattle.grammar_image.specs.GrammarImage.{entry_count}
 use Rattle.tree_image.specs.TreeImage.{node_count}
 use Rattle.images.specs.Held.{images_of}
-use Rattle.layout.specs.Standing.{symbols, SomeRow}
+use Rattle.layout.specs.Standing.{SomeRow}
+use Rattle.layout.proofs.Rows.{row_at}
 use Rattle.set_pass.specs.declared.next.Next.{Next}
 use Rattle.set_pass.specs.Next.{next_node, next_token}
 use Rattle.set_pass.proofs.SetPass.{RowDone}
@@ -25,8 +26,8 @@ invariant-row-loop-y l =
     record {
       behind : next_node l.fn.parent + 1 ≤ next_node l.next;
       within : l.y-iterator.end ≤ entry_count s.grammar;
-      stands : SomeRow s (symbols s.grammar l.y-iterator.start l.y-iterator.end) (next_node l.next) (next_token l.next);
+      stands : SomeRow s (row_at s.grammar l.y-iterator) (next_node l.next) (next_token l.next);
       gives : (final : List ℕ) (last : Set) (r : Next) →
-          RowDone s (symbols s.grammar l.y-iterator.start l.y-iterator.end) l.left (next_node l.next) (next_token l.next) l.sets final last r →
-          RowDone s (symbols s.grammar l.fn.entries.start l.fn.entries.end) (all_set unbounded) (next_node l.fn.parent + 1) (next_token l.fn.parent) l.fn.sets final last r;
+          RowDone s (row_at s.grammar l.y-iterator) l.left (next_node l.next) (next_token l.next) l.sets final last r →
+          RowDone s (row_at s.grammar l.fn.entries) (all_set unbounded) (next_node l.fn.parent + 1) (next_token l.fn.parent) l.fn.sets final last r;
     }

@@ -1,11 +1,12 @@
 -- The root is node 0, and its set is read back where it was written.
 use Rattle.std.proofs.Common.{arith}
 use Rattle.images.specs.Held.{images_of}
-use Rattle.set_pass.proofs.SetPass.{node_there, child_set}
+use Rattle.layout.proofs.Rows.{node_listed}
+use Rattle.set_pass.proofs.SetPass.{child_set}
 use Rattle.set_pass.proofs.root.Goals as goal
 
 pub set_at-requires : goal.set_at-requires
-set_at-requires c = omega (arith, node_there _ c.requires.stands, c.requires.room, c.node.auto.sets)
+set_at-requires c = omega (arith, node_listed _ _ c.requires.stands.stands, c.requires.room, c.node.auto.sets)
 
 pub returns : goal.returns
 returns c T there =

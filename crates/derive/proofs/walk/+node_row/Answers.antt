@@ -1,6 +1,7 @@
 use Rattle.std.proofs.Common.{ap, ◌∙◌, arith}
+use Rattle.fields.proofs.Searching.{handed}
 use Rattle.derive.specs.Answers.{walked_as}
-use Rattle.derive.proofs.Walking.{no_node, other_left, too_deep_lem, row_empty, row_walked, row_refused, row_goes_on, row_used, terminal_due, nonterminal_due, row_begins, handed}
+use Rattle.derive.proofs.Walking.{no_node, other_left, too_deep_lem, row_empty, row_walked, row_refused, row_goes_on, row_used, terminal_due, nonterminal_due, row_begins}
 use Rattle.derive.proofs.walk.+node_row.Goals as goal
 
 pub node-returns-then-n-count : goal.node-returns-then-n-count
@@ -21,7 +22,7 @@ node-returns-then-production-eq0 t c =
 pub node-returns : goal.node-returns
 node-returns t c =
     row_walked _ _ _ _ _ _ c.production_of-production.ensures.production _ c.if-levels-eq0.false (omega arith) (omega arith)
-    (c.row.ensures ∙ row_begins _ _ _ _ _ _ _)
+    (c.row.ensures ∙ row_begins _ _ _ _ _ _ _ _ c.entries.ensures.start c.entries.ensures.end)
 
 pub row-returns-in_err-used-in-Terminal : goal.row-returns-in_err-used-in-Terminal
 row-returns-in_err-used-in-Terminal t c =
@@ -50,4 +51,4 @@ row-loop-y-preserved t c = (
 )
 
 pub row-returns : goal.row-returns
-row-returns t c = row_used _ _ _ _ _ _ c.in-None.ensures.steps.1.0 ∙ c.loop-y.invariant.1
+row-returns t c = row_used _ _ _ _ _ _ (omega (arith, c.in-None.ensures.steps)) ∙ c.loop-y.invariant.1
