@@ -13,7 +13,6 @@ ghost use Rattle.judge.specs.Judged.{lists, given, derivation};
 ghost use Rattle.exported.specs.Calls.{Says, SaysAnswer, SaysChecked, SaysPacked};
 ghost use Rattle.exported.specs.Calls.{CheckCalled, TreeCalled, TokensCalled};
 
-use fields::Fault;
 use grammar_image::check_grammar;
 use judge::{Refusal, check, check_derivation};
 use token_image::check_tokens;
@@ -35,16 +34,6 @@ fn answer_in_one(answer: Result<(), Refusal>) -> u64
     match answer {
         Ok(()) => in_one(0, 0, 0),
         Err(refusal) => in_one(refusal.number(), 0, refusal.place()),
-    }
-}
-
-// What the check of an image answers, by the number of its refusal.
-fn checked_in_one(checked: Result<(), Fault>, refusal: u8) -> u64
-    ensures { SaysChecked refusal checked result }
-{
-    match checked {
-        Ok(()) => in_one(0, 0, 0),
-        Err(fault) => in_one(refusal, 0, fault.byte),
     }
 }
 
@@ -89,7 +78,7 @@ pub extern "C" fn pravisondo_derive(grammar: &[u8], tokens: &[u8], tree: &[u8]) 
 pub extern "C" fn pravisondo_check_grammar(image: &[u8]) -> u64
     ensures { SaysChecked 1 (first_fault (grammar_fields image.now)) result }
 {
-    checked_in_one(check_grammar(image), 1)
+    answer_in_one(check_grammar(image).map_err(Refusal::Grammar))
 }
 
 // `token_image::check_tokens`, with 2 for its refusal.
@@ -97,7 +86,7 @@ pub extern "C" fn pravisondo_check_grammar(image: &[u8]) -> u64
 pub extern "C" fn pravisondo_check_tokens(image: &[u8], terminals: u16) -> u64
     ensures { SaysChecked 2 (first_fault (token_fields terminals image.now)) result }
 {
-    checked_in_one(check_tokens(image, terminals), 2)
+    answer_in_one(check_tokens(image, terminals).map_err(Refusal::Tokens))
 }
 
 // `tree_image::check_tree`, with 3 for its refusal.
@@ -105,7 +94,7 @@ pub extern "C" fn pravisondo_check_tokens(image: &[u8], terminals: u16) -> u64
 pub extern "C" fn pravisondo_check_tree(image: &[u8], productions: u16) -> u64
     ensures { SaysChecked 3 (first_fault (tree_fields productions image.now)) result }
 {
-    checked_in_one(check_tree(image, productions), 3)
+    answer_in_one(check_tree(image, productions).map_err(Refusal::Tree))
 }
 
 // `tree_packer::pack_tree`.

@@ -74,29 +74,25 @@ impl From<derive::Refusal> for Refusal {
 }
 
 // The three images, where none of the tests 1 to 3 refuses.
+#[tactic(auto, using(fields::proofs::Promised::good_well_formed, grammar_image::proofs::Within::header_within), unfolding(crate::specs::Judged::first_refusal, crate::specs::Parts::image_tests))]
 fn formed<'a>(grammar: &'a [u8], tokens: &'a [u8], tree: &'a [u8]) -> Result<Formed<'a>, Refusal>
     ensures answer { given result ≡ first_refusal (image_tests (images grammar.now tokens.now tree.now)) }
     ensures images { IfOk result (λ f. images_of f ≡ images grammar.now tokens.now tree.now) }
 {
-    if let Err(fault) = check_grammar(grammar) {
-        return Err(Refusal::Grammar(fault));
-    }
+    check_grammar(grammar).map_err(Refusal::Grammar)?;
     let counts = counts_at(grammar);
-    if let Err(fault) = check_tokens(tokens, counts.terminals) {
-        return Err(Refusal::Tokens(fault));
-    }
-    if let Err(fault) = check_tree(tree, counts.productions) {
-        return Err(Refusal::Tree(fault));
-    }
+    check_tokens(tokens, counts.terminals).map_err(Refusal::Tokens)?;
+    check_tree(tree, counts.productions).map_err(Refusal::Tree)?;
     let nodes = FormedTree { grammar, tree };
     Ok(Formed { nodes, tokens })
 }
 
 // Whether there is room for a tree of so many nodes in lists of so many entries.
+#[tactic(auto, unfolding(crate::specs::Judged::first_refusal, crate::specs::Judged::room, crate::specs::Parts::room_tests))]
 fn room(nodes: u16, sets: usize, indentations: usize) -> Result<(), Refusal>
     ensures { given result ≡ first_refusal (room_tests nodes (entries sets indentations)) }
 {
-    let nodes = nodes as usize;
+    let nodes = usize::from(nodes);
     if sets < 2 * nodes {
         return Err(Refusal::Room((2 * nodes) as u32));
     }

@@ -24,6 +24,7 @@ fn check_columns(columns: &[u16]) -> Result<(), Refusal>
 }
 
 // The answer, from the lists and the room alone.
+#[tactic(auto, unfolding(packers::specs::Packing::token_answer))]
 fn token_answer(terminals: &[u16], columns: &[u16], room: usize) -> Result<u16, Refusal>
     ensures { result ≡ token_answer terminals.now columns.now room }
 {

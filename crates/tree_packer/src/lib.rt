@@ -9,6 +9,7 @@ use packers::{Refusal, into_room, put, put_header};
 use rules::NODES;
 
 // The answer, from the list and the room alone.
+#[tactic(auto, unfolding(packers::specs::Packing::tree_answer))]
 fn tree_answer(productions: &[u16], room: usize) -> Result<u16, Refusal>
     ensures { result ≡ tree_answer productions.now room }
 {
