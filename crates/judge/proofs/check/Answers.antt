@@ -43,7 +43,7 @@ pub returns-then-is_empty : goal.returns-then-is_empty
 returns-then-is_empty c =
     let passed = answered_zero _ c.in_ok-formed.ensures.answer refl in
     let nodes = ap (λ (s : Images). node_count s.tree) c.in_ok-formed.ensures.images in
-    empty_judged _ _ passed (root_of c.in_ok-formed.ensures.images c.root-root.ensures) (ltb-true _ _ (sym c.if-is_empty.ensures))
+    empty_judged _ _ passed (root_of c.in_ok-formed.ensures.images c.root-root.ensures) (omega (arith, ltb-true _ _ (sym c.if-is_empty.ensures)))
     (c.node_count.ensures ∙ nodes) c.highest_empty-node.ensures
 
 pub node-requires-clause-stands : goal.node-requires-clause-stands
@@ -71,5 +71,5 @@ pub returns : goal.returns
 returns c =
     let passed = answered_zero _ c.in_ok-formed.ensures.answer refl in
     let images_in = c.in_ok-formed.ensures.images in
-    accepted_judged _ _ passed (root_of images_in c.root-root.ensures) (ltb-false _ _ (sym c.if-is_empty.ensures))
+    accepted_judged _ _ passed (root_of images_in c.root-root.ensures) (omega (arith, ltb-false _ _ (sym c.if-is_empty.ensures)))
     (rw (ap (λ (s : Images). s.grammar) images_in, ap (λ (s : Images). s.tree) images_in) at c.node.ensures)
