@@ -1,10 +1,5 @@
 -- The three ways out of the check: a refusal before anything is written, an empty set at the root, and acceptance. Each is the verdict on the tree that the nodes derive.
-use mathlib.Core.Path.{◌≡◌, refl, sym, ap, ◌∙◌}
-use mathlib.Core.List.{List, [], append-nil}
-use Prim.Native.Nat.{ℕ, ◌*◌, ◌<◌, ◌≤◌}
-use native.Mathlib.Nat.{zero-add}
-use native.Mathlib.Omega.{arith}
-use lib.ListN.{length}
+use Rattle.std.proofs.Common.{◌≡◌, refl, sym, ap, ◌∙◌, List, [], append-nil, ℕ, ◌*◌, ◌<◌, ◌≤◌, zero-add, arith, length}
 use Rattle.fields.specs.Images.{Images}
 use Rattle.rules.specs.Limits.{max_column}
 use Rattle.rules.specs.Grammar.{Token, ColumnsUpTo}

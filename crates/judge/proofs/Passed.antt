@@ -1,17 +1,9 @@
 -- No test refuses exactly if the images are well formed, there is room, and the nodes derive the tokens within the limit.
-use mathlib.Core.Path.{◌≡◌, refl, sym, ap, ◌∙◌}
-use mathlib.Core.Logic.{⊎_elim}
-use mathlib.Core.Bool.{Bool, true, false, cond}
-use mathlib.Core.List.{List, [], ◌∷◌}
-use Prim.Native.Nat.{ℕ, ◌*◌, ◌<◌, ◌≤◌}
-use native.Mathlib.Omega.{arith}
-use lib.Dec.{eqb, ltb}
-use borrow.Author.Tests.{eqb-true, ltb-false, le-ltb}
+use Rattle.std.proofs.Common.{◌≡◌, refl, sym, ap, ◌∙◌, ⊎_elim, Bool, true, false, cond, List, [], ◌∷◌, ℕ, ◌*◌, ◌<◌, ◌≤◌, arith, eqb, ltb, eqb-true, ltb-false, le-ltb, Ok, Err}
 use Rattle.fields.specs.Images.{Images}
 use Rattle.rules.specs.Walk.{Answer, answer}
 use Rattle.rules.proofs.Refusals.{answers, derived, derives_answered}
 use Rattle.fields.specs.Fields.{Checked}
-use Rattle.std.specs.Prelude.{Ok, Err}
 use Rattle.fields.specs.Answers.{checked_number}
 use Rattle.fields.specs.Fields.{first_fault}
 use Rattle.grammar_image.specs.GrammarImage.{terminal_count, production_count, start_nonterminal, production_at, grammar_fields}

@@ -1,14 +1,7 @@
 -- The tests in the order of the table: the first that refuses gives the refusal, whatever comes after it.
-use mathlib.Core.Path.{◌≡◌, refl, sym, ap, ◌∙◌}
-use mathlib.Core.Bool.{Bool, true, false, cond}
-use mathlib.Core.List.{List, [], ◌∷◌, ◌++◌}
-use Prim.Native.Nat.{ℕ, ◌*◌, ◌<◌, ◌≤◌}
-use native.Mathlib.Omega.{arith}
-use lib.Dec.{eqb}
-use borrow.Author.Tests.{lt-ltb, le-ltb, eq-eqb}
+use Rattle.std.proofs.Common.{◌≡◌, refl, sym, ap, ◌∙◌, Bool, true, false, cond, List, [], ◌∷◌, ◌++◌, ℕ, ◌*◌, ◌<◌, ◌≤◌, arith, eqb, lt-ltb, le-ltb, eq-eqb, Ok, Err, Result}
 use Rattle.fields.specs.Images.{Images}
 use Rattle.rules.specs.Walk.{Answer, answer}
-use Rattle.std.specs.Prelude.{Ok, Err}
 use Rattle.fields.specs.declared.Fault.{Fault}
 use Rattle.fields.specs.Fields.{first_fault}
 use Rattle.grammar_image.specs.GrammarImage.{terminal_count, production_count, grammar_fields}
@@ -16,7 +9,6 @@ use Rattle.token_image.specs.TokenImage.{token_fields}
 use Rattle.tree_image.specs.TreeImage.{node_count, tree_fields}
 use Rattle.derive.specs.declared.Refusal.{Refusal}
 use Rattle.derive.specs.declared.Refusal.TheVariants.{WrongNode, NodesEnd, WrongToken, TokensEnd, TooDeep, NodesRemain, TokensRemain}
-use Rattle.std.specs.Prelude.{Result}
 use Rattle.derive.specs.Answers.{refusal_answer, derivation_answer}
 use Rattle.derive.specs.Images.{walk_in}
 use Rattle.judge.specs.Judged.{Entries, entries, room, tests, first_refusal, enough}

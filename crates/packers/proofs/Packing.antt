@@ -1,20 +1,11 @@
 -- Laws of the bytes of a list of fields, and of an output whose first fields are written.
-use Rattle.std.proofs.Common.{sym, length-drop, drop-drop, get_or-drop}
-use mathlib.Core.Path.{◌≡◌, refl, ap, ◌∙◌}
-use mathlib.Core.Bool.{Bool, true, false, ◌&&◌, cond}
-use mathlib.Core.List.{List, [], ◌∷◌, ◌++◌, map}
-use Prim.Native.Nat.{ℕ, zero, suc, ◌+◌, ◌*◌, ◌%◌, ◌/◌, ◌<◌, ◌≤◌}
-use native.Mathlib.Nat.{add-zero, zero-add, add-suc, suc-add, mod-add-div}
-use native.Mathlib.Numerals.{add-one}
-use native.Mathlib.Omega.{arith}
-use lib.Dec.{leb, eqb}
-use lib.ListN.{length, get_or, take, drop, set}
-use lib.Seq.{get_or-append-add, take-length}
-use borrow.Author.Tests.{le-leb, lt-leb, eq-eqb, ne_eqb, leb-true, eqb-true}
+use Rattle.std.proofs.Common.{◌≡◌, refl, sym, ap, ◌∙◌, Bool, true, false, ◌&&◌, cond, List, [], ◌∷◌, ◌++◌, map, ℕ, zero, suc, ◌+◌, ◌*◌, ◌%◌, ◌/◌, ◌<◌, ◌≤◌, add-zero, zero-add, add-suc, suc-add, add-one, arith, leb, eqb, length, get_or, take, drop, set, get_or-append-add, length-drop, drop-drop, get_or-drop, le-leb, eq-eqb, ne_eqb, leb-true, eqb-true, Ok, Err}
+use Rattle.std.proofs.Math.Nat.{mod-add-div}
+use Rattle.std.proofs.Math.Seq.{take-length}
+use Rattle.std.proofs.lemmas.Bool.{lt-leb}
 use Rattle.rules.specs.Limits.{max_nodes, max_tokens}
 use Rattle.fields.specs.Fields.{field_at, Bytes, Field, field, WellFormed, first_fault, list_from, list}
 use Rattle.packers.specs.Packing.{bytes_of, in_turn, into_room, tree_answer, column_fields, past_columns, columns_refusal, token_answer}
-use Rattle.std.specs.Prelude.{Ok, Err}
 use Rattle.fields.specs.Fields.{Checked}
 use Rattle.packers.specs.declared.Refusal.{Refusal}
 use Rattle.packers.specs.declared.Refusal.TheVariants.{Entries, Room}
