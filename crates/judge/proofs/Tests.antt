@@ -11,12 +11,14 @@ use Rattle.derive.specs.declared.Refusal.{Refusal}
 use Rattle.derive.specs.declared.Refusal.TheVariants.{WrongNode, NodesEnd, WrongToken, TokensEnd, TooDeep, NodesRemain, TokensRemain}
 use Rattle.derive.specs.Answers.{refusal_answer, derivation_answer}
 use Rattle.derive.specs.Images.{walk_in}
-use Rattle.judge.specs.Judged.{Entries, entries, room, tests, first_refusal, enough}
+use Rattle.judge.specs.Judged.{Entries, entries, room, tests, first_refusal, enough, derivation}
 use Rattle.judge.specs.declared.Refusal.{Refusal as CheckRefusal}
 use Rattle.judge.specs.Refusals.{refusal_answer as check_answer}
 use Rattle.judge.specs.declared.Refusal.TheVariants.{Grammar, Tokens, Tree, Room, Derivation, Empty}
 use Rattle.judge.specs.Parts.{image_tests, room_tests, walk_tests}
-use Rattle.judge.proofs.Passed.{first_passed}
+use Rattle.images.specs.Formed.{Formed}
+use Rattle.fields.proofs.Promised.{good_well_formed}
+use Rattle.judge.proofs.Passed.{answered_zero, first_passed}
 
 -- a part of the tests that refuses
 goes_by : (b : Bool) (x y a : Answer) → ((x.number ≡ 0 → ⊥) → x ≡ y) → ((cond b x a).number ≡ 0 → ⊥) → cond b x a ≡ cond b y a
@@ -76,23 +78,31 @@ module _ (s : Images) where
   grammar_refused e = rw (← e)
 
   module _ (one : Ok tt ≡ first_fault (grammar_fields s.grammar)) where
-    pub tokens_refused : {fault : Fault} {T : ℕ} → T ≡ terminal_count s.grammar → Err fault ≡ first_fault (token_fields T s.tokens) → answer 2 fault.byte ≡ first_refusal (image_tests s)
-    unfolding first_refusal image_tests
-    tokens_refused t e = rw (← one, ← t, ← e)
-
-    module _ (two : Ok tt ≡ first_fault (token_fields (terminal_count s.grammar) s.tokens)) where
-      pub tree_refused : {fault : Fault} {P : ℕ} → P ≡ production_count s.grammar → Err fault ≡ first_fault (tree_fields P s.tree) → answer 3 fault.byte ≡ first_refusal (image_tests s)
+    module _ {T : ℕ} (terminals : T ≡ terminal_count s.grammar) where
+      pub tokens_refused : {fault : Fault} → Err fault ≡ first_fault (token_fields T s.tokens) → answer 2 fault.byte ≡ first_refusal (image_tests s)
       unfolding first_refusal image_tests
-      tree_refused p e = rw (← one, ← two, ← p, ← e)
+      tokens_refused e = rw (← one, ← terminals, ← e)
 
-      pub images_passed : Ok tt ≡ first_fault (tree_fields (production_count s.grammar) s.tree) → answer 0 0 ≡ first_refusal (image_tests s)
-      unfolding first_refusal image_tests
-      images_passed three = rw (← one, ← two, ← three)
+      module _ (two : Ok tt ≡ first_fault (token_fields T s.tokens)) {P : ℕ} (productions : P ≡ production_count s.grammar) where
+        pub tree_refused : {fault : Fault} → Err fault ≡ first_fault (tree_fields P s.tree) → answer 3 fault.byte ≡ first_refusal (image_tests s)
+        unfolding first_refusal image_tests
+        tree_refused e = rw (← one, ← terminals, ← two, ← productions, ← e)
+
+        module _ (three : Ok tt ≡ first_fault (tree_fields P s.tree)) where
+          pub images_passed : answer 0 0 ≡ first_refusal (image_tests s)
+          unfolding first_refusal image_tests
+          images_passed = rw (← one, ← terminals, ← two, ← productions, ← three)
+
+          pub images_formed : Formed s
+          images_formed = record {
+            nodes_formed = record { grammar_formed = good_well_formed _ one; tree_formed = rw (← productions) (good_well_formed _ three) };
+            tokens_formed = rw (← terminals) (good_well_formed _ two);
+          }
 
   -- 5 to 11
-  pub walked : (r : Result (Unit {0}) Refusal) → derivation_answer r ≡ walk_in s → derivation_answer r ≡ first_refusal (walk_tests s)
+  pub walked : (r : Result (Unit {0}) Refusal) {t : Images} → t ≡ s → derivation_answer r ≡ walk_in t → derivation_answer r ≡ first_refusal (walk_tests s)
   unfolding walk_tests
-  walked r e = only_walked r ∙ ap (λ (a : Answer). first_refusal (a ∷ [])) e
+  walked r same e = only_walked r ∙ ap (λ (a : Answer). first_refusal (a ∷ [])) (e ∙ ap walk_in same)
 
 -- 4
 module _ (nodes sets indentations : ℕ) where
@@ -109,8 +119,13 @@ module _ (nodes sets indentations : ℕ) where
   room_passed g h = rw (le-ltb sets _ g, le-ltb indentations _ h)
 
 -- lists with room for every node have room
-pub room_enough : (s : Images) → (first_refusal (room_tests (node_count s.tree) (enough s))).number ≡ 0
-room_enough s = ap (λ (a : Answer). a.number) (sym (room_passed (node_count s.tree) _ _ (omega arith) (omega arith)))
+room_enough : (s : Images) → answer 0 0 ≡ first_refusal (room_tests (node_count s.tree) (enough s))
+room_enough s = room_passed (node_count s.tree) _ _ (omega arith) (omega arith)
+
+-- the room for a tree is that for the nodes of the images that are tested
+pub room_as : {s t : Images} {nodes : ℕ} (lent : Entries) {a : Answer} → nodes ≡ node_count t.tree → t ≡ s →
+    a ≡ first_refusal (room_tests nodes lent) → a ≡ first_refusal (room_tests (node_count s.tree) lent)
+room_as lent counted same e = rw (← counted ∙ ap (λ (s : Images). node_count s.tree) same) e
 
 parts : (s : Images) (lent : Entries) → tests s lent ≡ image_tests s ++ (room_tests (node_count s.tree) lent ++ walk_tests s)
 unfolding tests image_tests room_tests walk_tests
@@ -121,11 +136,14 @@ module _ (s : Images) (lent : Entries) {a : Answer} where
   pub images_first : a ≡ first_refusal (image_tests s) → (a.number ≡ 0 → ⊥) → a ≡ first_refusal (tests s lent)
   images_first e some = rw (parts s lent) (e ∙ part_refused (image_tests s) _ (λ z. some (ap (λ (a : Answer). a.number) e ∙ z)))
 
-  module _ (one : (first_refusal (image_tests s)).number ≡ 0) where
+  module _ (one : answer 0 0 ≡ first_refusal (image_tests s)) where
     pub room_first : a ≡ first_refusal (room_tests (node_count s.tree) lent) → (a.number ≡ 0 → ⊥) → a ≡ first_refusal (tests s lent)
     room_first e some =
         rw (parts s lent)
-        (e ∙ part_refused (room_tests (node_count s.tree) lent) (walk_tests s) (λ z. some (ap (λ (a : Answer). a.number) e ∙ z)) ∙ part_passed (image_tests s) _ one)
+        (e ∙ part_refused (room_tests (node_count s.tree) lent) (walk_tests s) (λ z. some (ap (λ (a : Answer). a.number) e ∙ z)) ∙ part_passed (image_tests s) _ (answered_zero _ one refl))
 
-    pub walk_first : (first_refusal (room_tests (node_count s.tree) lent)).number ≡ 0 → a ≡ first_refusal (walk_tests s) → a ≡ first_refusal (tests s lent)
-    walk_first two e = rw (parts s lent) (e ∙ part_passed (room_tests (node_count s.tree) lent) (walk_tests s) two ∙ part_passed (image_tests s) _ one)
+    pub walk_first : answer 0 0 ≡ first_refusal (room_tests (node_count s.tree) lent) → a ≡ first_refusal (walk_tests s) → a ≡ first_refusal (tests s lent)
+    walk_first two e = rw (parts s lent) (e ∙ part_passed (room_tests (node_count s.tree) lent) (walk_tests s) (answered_zero _ two refl) ∙ part_passed (image_tests s) _ (answered_zero _ one refl))
+
+pub walk_alone : (s : Images) {a : Answer} → answer 0 0 ≡ first_refusal (image_tests s) → a ≡ first_refusal (walk_tests s) → a ≡ derivation s
+walk_alone s one e = walk_first s (enough s) one (room_enough s) e
