@@ -122,7 +122,3 @@ module _ (s : Images) (lent : Entries) where
         le-ltb lent.indentations (node_count tree) f.indentations_room,
         derives_answered (production_at grammar) (start_nonterminal grammar) (nodes_of tree) (tokens_of tokens) d,
       )
-
--- images that are those that no test refuses are refused by none
-pub passed_as : {s t : Images} (lent : Entries) → answer 0 0 ≡ first_refusal (tests s lent) → t ≡ s → (first_refusal (tests t lent)).number ≡ 0
-passed_as lent e same = rw same (answered_zero _ e refl)
