@@ -1,8 +1,5 @@
 -- Two outcomes that a contract allows are equal.
-use mathlib.Core.Path.{◌≡◌, refl, sym, ap, ap₂, ◌∙◌}
-use mathlib.Core.List.{List}
-use Prim.Native.Nat.{ℕ, ◌+◌, ◌*◌, ◌%◌, ◌/◌}
-use native.Mathlib.Omega.{arith}
+use Rattle.std.proofs.Common.{◌≡◌, refl, sym, ap, ap₂, ◌∙◌, List, ℕ, ◌+◌, ◌*◌, ◌%◌, ◌/◌, arith}
 use Rattle.rules.specs.Walk.{Answer}
 use Rattle.fields.specs.Images.{Images}
 use Rattle.fields.specs.Fields.{Checked}

@@ -1,6 +1,6 @@
 -- Laws of the search for the first field that breaks its rule. A check says with them what is left to be searched.
-use Rattle.std.proofs.Common.{◌≡◌, refl, sym, ap, ◌∙◌, Bool, true, false, not, cond, List, [], ◌∷◌, ◌++◌, ℕ, suc, ◌+◌, ◌-◌, ◌<◌, ◌≤◌, arith, add-one, length, get_or, drop, drop_of_length-le, drop-cons, Result, Ok, Err, IsErr, IsErrAnd}
-use borrow.Author.Tests.{le-leb, lt-leb, lt-ltb, le-ltb, eq-eqb, ne_eqb, not-true, not-false}
+use Rattle.std.proofs.Common.{◌≡◌, refl, sym, ap, ◌∙◌, Bool, true, false, not, cond, List, [], ◌∷◌, ◌++◌, ℕ, suc, ◌+◌, ◌-◌, ◌<◌, ◌≤◌, arith, add-one, length, get_or, drop, drop_of_length-le, drop-cons, Result, Ok, Err, IsErr, IsErrAnd, le-leb, lt-ltb, le-ltb, eq-eqb, ne_eqb}
+use Rattle.std.proofs.lemmas.Bool.{lt-leb, not-true, not-false}
 use Rattle.std.proofs.lemmas.Result.{err_from_is_err_and}
 use Rattle.fields.specs.declared.Fault.{Fault}
 use Rattle.fields.specs.Fields.{Field, Checked, fault_at, nowhere, each_from, first_fault}

@@ -1,10 +1,6 @@
 -- The desk's three conditions, sentence by sentence, as theorems about what the contracts allow.
 -- A reader of this file and of crates/rules/specs knows what was promised.
-use mathlib.Core.Path.{◌≡◌}
-use mathlib.Core.Logic.{◌⊎◌}
-use mathlib.Core.List.{List, map}
-use Prim.Native.Nat.{ℕ, ◌+◌, ◌-◌, ◌*◌, ◌<◌, ◌≤◌}
-use lib.ListN.{length, get_or, take, drop}
+use Rattle.std.proofs.Common.{◌≡◌, ◌⊎◌, List, map, ℕ, ◌+◌, ◌-◌, ◌*◌, ◌<◌, ◌≤◌, length, get_or, take, drop, Ok}
 use Rattle.rules.specs.Limits.{max_depth, max_indentation}
 use Rattle.rules.specs.Derivation.{Right, Derives}
 use Rattle.rules.specs.Tree.{Tree}
@@ -22,7 +18,6 @@ use Rattle.grammar_image.specs.GrammarImage.{start_nonterminal, production_at}
 use Rattle.token_image.specs.TokenImage.{tokens_of, token_fields}
 use Rattle.tree_image.specs.TreeImage.{node_count, nodes_of, tree_fields}
 use Rattle.packers.specs.Answers.{Packed}
-use Rattle.std.specs.Prelude.{Ok}
 use Rattle.packers.specs.Answers.{packed_number}
 use Rattle.packers.specs.Packing.{tree_image, token_image, TreePacked, TokensPacked}
 use Rattle.packers.proofs.RoundTrip.{terminal_of, column_of, tree_reads_back, tokens_read_back}

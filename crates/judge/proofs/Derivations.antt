@@ -1,20 +1,11 @@
 -- What is promised of the check of the derivation: it accepts exactly what derives, and where there is room for the lists it says what the check says.
-use mathlib.Core.Path.{◌≡◌, refl, sym, ap, ◌∙◌}
-use mathlib.Core.Logic.{◌⊎◌, inl, inr, ⊎_elim}
-use mathlib.Core.List.{List, [], ◌∷◌}
-use mathlib.Core.Bool.{Bool, true, false, cond}
-use Prim.Native.Nat.{ℕ, ◌*◌, ◌≤◌}
-use native.Mathlib.Omega.{arith}
-use lib.Dec.{eqb}
-use lib.ListN.{length}
-use borrow.Author.Tests.{le-ltb}
+use Rattle.std.proofs.Common.{◌≡◌, refl, sym, ap, ◌∙◌, ◌⊎◌, inl, inr, ⊎_elim, List, [], ◌∷◌, Bool, true, false, cond, ℕ, ◌*◌, ◌≤◌, arith, eqb, length, le-ltb, Ok, Err}
 use Rattle.rules.specs.Grammar.{Production, Token}
 use Rattle.rules.specs.Walk.{Answer, answer}
 use Rattle.rules.specs.Verdict.{Verdict, refused, empty, accepted}
 use Rattle.rules.proofs.Refusals.{answers, derives_answered}
 use Rattle.fields.specs.Images.{Images}
 use Rattle.fields.specs.Fields.{Checked}
-use Rattle.std.specs.Prelude.{Ok, Err}
 use Rattle.fields.specs.Answers.{checked_number}
 use Rattle.fields.specs.Fields.{first_fault}
 use Rattle.fields.proofs.Promised.{well_formed_good}

@@ -1,17 +1,9 @@
 -- No test refuses exactly if the images are well formed, there is room, and the nodes derive the tokens within the limit.
-use mathlib.Core.Path.{◌≡◌, refl, sym, ap, ◌∙◌}
-use mathlib.Core.Logic.{⊎_elim}
-use mathlib.Core.Bool.{Bool, true, false, cond}
-use mathlib.Core.List.{List, [], ◌∷◌}
-use Prim.Native.Nat.{ℕ, ◌*◌, ◌<◌, ◌≤◌}
-use native.Mathlib.Omega.{arith}
-use lib.Dec.{eqb, ltb}
-use borrow.Author.Tests.{eqb-true, ltb-false, le-ltb}
+use Rattle.std.proofs.Common.{◌≡◌, refl, sym, ap, ◌∙◌, ⊎_elim, Bool, true, false, true≢false, cond, List, [], ◌∷◌, ℕ, ◌*◌, ◌<◌, ◌≤◌, arith, eqb, ltb, eqb-true, ltb-false, le-ltb, Ok, Err}
 use Rattle.fields.specs.Images.{Images}
 use Rattle.rules.specs.Walk.{Answer, answer}
 use Rattle.rules.proofs.Refusals.{answers, derived, derives_answered}
 use Rattle.fields.specs.Fields.{Checked}
-use Rattle.std.specs.Prelude.{Ok, Err}
 use Rattle.fields.specs.Answers.{checked_number}
 use Rattle.fields.specs.Fields.{first_fault}
 use Rattle.grammar_image.specs.GrammarImage.{terminal_count, production_count, start_nonterminal, production_at, grammar_fields}
@@ -19,8 +11,6 @@ use Rattle.token_image.specs.TokenImage.{tokens_of, token_fields}
 use Rattle.tree_image.specs.TreeImage.{node_count, nodes_of, tree_fields}
 use Rattle.fields.proofs.Promised.{good_well_formed, well_formed_good}
 use Rattle.derive.specs.Images.{walk_in}
-use Rattle.images.specs.Formed.{Formed}
-use Rattle.judge.specs.Parts.{image_tests}
 use Rattle.judge.specs.Judged.{Entries, checked, room, tests, first_refusal, Fitting, DerivesIn}
 
 -- an answer that is the first refusal, and whose number is 0: no test refuses
@@ -34,10 +24,7 @@ first_passed a later e = by (eqb a.number 0) refl e
   where
     by : (b : Bool) → eqb a.number 0 ≡ b → (cond b (first_refusal later) a).number ≡ 0 → (a.number ≡ 0) × ((first_refusal later).number ≡ 0)
     by true t e = (eqb-true _ _ t, e)
-    by false t e = absurd (let z : ◌≡◌ {A = Bool} true false = sym (ap (λ (n : ℕ). eqb n 0) e) ∙ t in false_not_true z)
-      where
-        false_not_true : true ≡ false → ⊥
-        false_not_true z = let y : ◌≡◌ {A = ℕ} 0 1 = cc in omega arith
+    by false t e = absurd (true≢false (sym (ap (λ (n : ℕ). eqb n 0) e) ∙ t))
 
 -- a bound of all tests' numbers is one of the first refusal's
 unfoldable AllBelow : List Answer → ℕ → Type 0
@@ -74,22 +61,6 @@ room_there needed there e = by (ltb there needed) refl e
     by : (b : Bool) → ltb there needed ≡ b → (cond b (answer 4 needed) (answer 0 0)).number ≡ 0 → needed ≤ there
     by true t e = absurd (omega arith)
     by false t e = ltb-false _ _ t
-
--- images that pass their tests are well formed
-pub images_formed : (s : Images) → (first_refusal (image_tests s)).number ≡ 0 → Formed s
-unfolding image_tests
-images_formed s e =
-    let one = first_passed (checked 1 (first_fault (grammar_fields s.grammar))) _ e in
-    let two = first_passed (checked 2 (first_fault (token_fields (terminal_count s.grammar) s.tokens))) _ one.1 in
-    let three = first_passed (checked 3 (first_fault (tree_fields (production_count s.grammar) s.tree))) _ two.1 in
-    record {
-      nodes_formed =
-          record {
-            grammar_formed = good_well_formed _ (checked_good 1 _ (λ z. omega arith) one.0);
-            tree_formed = good_well_formed _ (checked_good 3 _ (λ z. omega arith) three.0);
-          };
-      tokens_formed = good_well_formed _ (checked_good 2 _ (λ z. omega arith) two.0);
-    }
 
 module _ (s : Images) (lent : Entries) where
   abbrev grammar : List ℕ

@@ -1,12 +1,6 @@
 -- Every trial sheet has the verdict of its row: a refused one by running the walk, any other by giving its tree and running the two passes over it.
-use mathlib.Core.Path.{◌≡◌, refl}
-use mathlib.Core.Bool.{false}
-use mathlib.Core.List.{[]}
-use Prim.Native.Nat.{ℕ, ◌<◌, ◌≤◌}
-use native.Mathlib.Omega.{arith}
-use lib.Dec.{eqb}
-use lib.ListN.{length}
-use borrow.Author.Tests.{eqb-false}
+use Rattle.std.proofs.Common.{◌≡◌, refl, false, [], ℕ, ◌<◌, ◌≤◌, arith, eqb, length}
+use Rattle.std.proofs.lemmas.Bool.{eqb-false}
 use Rattle.rules.specs.Limits.{max_depth}
 use Rattle.rules.specs.Grammar.{no_column}
 use Rattle.rules.specs.Tree.{Tree, node, end, token, child}

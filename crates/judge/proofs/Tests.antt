@@ -1,14 +1,7 @@
 -- The tests in the order of the table: the first that refuses gives the refusal, whatever comes after it.
-use mathlib.Core.Path.{◌≡◌, refl, sym, ap, ◌∙◌}
-use mathlib.Core.Bool.{Bool, true, false, cond}
-use mathlib.Core.List.{List, [], ◌∷◌, ◌++◌}
-use Prim.Native.Nat.{ℕ, ◌*◌, ◌<◌, ◌≤◌}
-use native.Mathlib.Omega.{arith}
-use lib.Dec.{eqb}
-use borrow.Author.Tests.{lt-ltb, le-ltb, eq-eqb}
+use Rattle.std.proofs.Common.{◌≡◌, refl, sym, ap, ◌∙◌, Bool, true, false, cond, List, [], ◌∷◌, ◌++◌, ℕ, ◌*◌, ◌<◌, ◌≤◌, arith, eqb, lt-ltb, le-ltb, eq-eqb, Ok, Err, Result}
 use Rattle.fields.specs.Images.{Images}
 use Rattle.rules.specs.Walk.{Answer, answer}
-use Rattle.std.specs.Prelude.{Ok, Err}
 use Rattle.fields.specs.declared.Fault.{Fault}
 use Rattle.fields.specs.Fields.{first_fault}
 use Rattle.grammar_image.specs.GrammarImage.{terminal_count, production_count, grammar_fields}
@@ -16,15 +9,17 @@ use Rattle.token_image.specs.TokenImage.{token_fields}
 use Rattle.tree_image.specs.TreeImage.{node_count, tree_fields}
 use Rattle.derive.specs.declared.Refusal.{Refusal}
 use Rattle.derive.specs.declared.Refusal.TheVariants.{WrongNode, NodesEnd, WrongToken, TokensEnd, TooDeep, NodesRemain, TokensRemain}
-use Rattle.std.specs.Prelude.{Result}
 use Rattle.derive.specs.Answers.{refusal_answer, derivation_answer}
 use Rattle.derive.specs.Images.{walk_in}
-use Rattle.judge.specs.Judged.{Entries, entries, room, tests, first_refusal, enough}
+use Rattle.grammar_image.proofs.Within.{header_within}
+use Rattle.judge.specs.Judged.{Entries, entries, room, tests, first_refusal, enough, derivation}
 use Rattle.judge.specs.declared.Refusal.{Refusal as CheckRefusal}
 use Rattle.judge.specs.Refusals.{refusal_answer as check_answer}
 use Rattle.judge.specs.declared.Refusal.TheVariants.{Grammar, Tokens, Tree, Room, Derivation, Empty}
 use Rattle.judge.specs.Parts.{image_tests, room_tests, walk_tests}
-use Rattle.judge.proofs.Passed.{first_passed}
+use Rattle.images.specs.Formed.{Formed}
+use Rattle.fields.proofs.Promised.{good_well_formed}
+use Rattle.judge.proofs.Passed.{answered_zero, first_passed}
 
 -- a part of the tests that refuses
 goes_by : (b : Bool) (x y a : Answer) → ((x.number ≡ 0 → ⊥) → x ≡ y) → ((cond b x a).number ≡ 0 → ⊥) → cond b x a ≡ cond b y a
@@ -46,6 +41,9 @@ part_passed [] ys e = refl
 part_passed (a ∷ xs) ys e =
     let h = first_passed a xs e in
     part_passed xs ys h.1 ∙ skipped a (xs ++ ys) h.0
+
+-- for images that were found good
+pub ruleset formed_images = (good_well_formed, header_within)
 
 -- a refusal has a number other than 0
 pub some_number : (r : CheckRefusal) → (check_answer r).number ≡ 0 → ⊥
@@ -78,50 +76,27 @@ only_walked (Ok derived) = refl
 only_walked (Err r) = sym (walk_refusal r (answer 0 0))
 
 module _ (s : Images) where
-  -- 1 to 3
-  pub grammar_refused : {fault : Fault} → Err fault ≡ first_fault (grammar_fields s.grammar) → answer 1 fault.byte ≡ first_refusal (image_tests s)
-  unfolding first_refusal image_tests
-  grammar_refused e = rw (← e)
-
-  module _ (one : Ok tt ≡ first_fault (grammar_fields s.grammar)) where
-    pub tokens_refused : {fault : Fault} {T : ℕ} → T ≡ terminal_count s.grammar → Err fault ≡ first_fault (token_fields T s.tokens) → answer 2 fault.byte ≡ first_refusal (image_tests s)
-    unfolding first_refusal image_tests
-    tokens_refused t e = rw (← one, ← t, ← e)
-
-    module _ (two : Ok tt ≡ first_fault (token_fields (terminal_count s.grammar) s.tokens)) where
-      pub tree_refused : {fault : Fault} {P : ℕ} → P ≡ production_count s.grammar → Err fault ≡ first_fault (tree_fields P s.tree) → answer 3 fault.byte ≡ first_refusal (image_tests s)
-      unfolding first_refusal image_tests
-      tree_refused p e = rw (← one, ← two, ← p, ← e)
-
-      pub images_passed : Ok tt ≡ first_fault (tree_fields (production_count s.grammar) s.tree) → answer 0 0 ≡ first_refusal (image_tests s)
-      unfolding first_refusal image_tests
-      images_passed three = rw (← one, ← two, ← three)
-
   -- 5 to 11
-  pub walked : (r : Result (Unit {0}) Refusal) → derivation_answer r ≡ walk_in s → derivation_answer r ≡ first_refusal (walk_tests s)
-  unfolding walk_tests
-  walked r e = only_walked r ∙ ap (λ (a : Answer). first_refusal (a ∷ [])) e
+  pub walked : (r : Result (Unit {0}) Refusal) {t : Images} → t ≡ s → derivation_answer r ≡ walk_in t → derivation_answer r ≡ first_refusal (walk_tests s)
+  walked r same e = only_walked r ∙ ap (λ (a : Answer). first_refusal (a ∷ [])) (e ∙ ap walk_in same)
 
 -- 4
 module _ (nodes sets indentations : ℕ) where
-  pub sets_refused : sets < 2 * nodes → answer 4 (2 * nodes) ≡ first_refusal (room_tests nodes (entries sets indentations))
-  unfolding first_refusal room_tests room
-  sets_refused h = rw (lt-ltb sets _ h)
-
-  pub indentations_refused : 2 * nodes ≤ sets → indentations < nodes → answer 4 nodes ≡ first_refusal (room_tests nodes (entries sets indentations))
-  unfolding first_refusal room_tests room
-  indentations_refused g h = rw (le-ltb sets _ g, lt-ltb indentations _ h)
-
   pub room_passed : 2 * nodes ≤ sets → nodes ≤ indentations → answer 0 0 ≡ first_refusal (room_tests nodes (entries sets indentations))
-  unfolding first_refusal room_tests room
+  unfolding first_refusal room
   room_passed g h = rw (le-ltb sets _ g, le-ltb indentations _ h)
 
 -- lists with room for every node have room
-pub room_enough : (s : Images) → (first_refusal (room_tests (node_count s.tree) (enough s))).number ≡ 0
-room_enough s = ap (λ (a : Answer). a.number) (sym (room_passed (node_count s.tree) _ _ (omega arith) (omega arith)))
+room_enough : (s : Images) → answer 0 0 ≡ first_refusal (room_tests (node_count s.tree) (enough s))
+room_enough s = room_passed (node_count s.tree) _ _ (omega arith) (omega arith)
+
+-- the room for a tree is that for the nodes of the images that are tested
+pub room_as : {s t : Images} {nodes : ℕ} (lent : Entries) {a : Answer} → nodes ≡ node_count t.tree → t ≡ s →
+    a ≡ first_refusal (room_tests nodes lent) → a ≡ first_refusal (room_tests (node_count s.tree) lent)
+room_as lent counted same e = rw (← counted ∙ ap (λ (s : Images). node_count s.tree) same) e
 
 parts : (s : Images) (lent : Entries) → tests s lent ≡ image_tests s ++ (room_tests (node_count s.tree) lent ++ walk_tests s)
-unfolding tests image_tests room_tests walk_tests
+unfolding tests
 parts s lent = refl
 
 -- all tests, part by part; a is what a part of them gives
@@ -129,11 +104,14 @@ module _ (s : Images) (lent : Entries) {a : Answer} where
   pub images_first : a ≡ first_refusal (image_tests s) → (a.number ≡ 0 → ⊥) → a ≡ first_refusal (tests s lent)
   images_first e some = rw (parts s lent) (e ∙ part_refused (image_tests s) _ (λ z. some (ap (λ (a : Answer). a.number) e ∙ z)))
 
-  module _ (one : (first_refusal (image_tests s)).number ≡ 0) where
+  module _ (one : answer 0 0 ≡ first_refusal (image_tests s)) where
     pub room_first : a ≡ first_refusal (room_tests (node_count s.tree) lent) → (a.number ≡ 0 → ⊥) → a ≡ first_refusal (tests s lent)
     room_first e some =
         rw (parts s lent)
-        (e ∙ part_refused (room_tests (node_count s.tree) lent) (walk_tests s) (λ z. some (ap (λ (a : Answer). a.number) e ∙ z)) ∙ part_passed (image_tests s) _ one)
+        (e ∙ part_refused (room_tests (node_count s.tree) lent) (walk_tests s) (λ z. some (ap (λ (a : Answer). a.number) e ∙ z)) ∙ part_passed (image_tests s) _ (answered_zero _ one refl))
 
-    pub walk_first : (first_refusal (room_tests (node_count s.tree) lent)).number ≡ 0 → a ≡ first_refusal (walk_tests s) → a ≡ first_refusal (tests s lent)
-    walk_first two e = rw (parts s lent) (e ∙ part_passed (room_tests (node_count s.tree) lent) (walk_tests s) two ∙ part_passed (image_tests s) _ one)
+    pub walk_first : answer 0 0 ≡ first_refusal (room_tests (node_count s.tree) lent) → a ≡ first_refusal (walk_tests s) → a ≡ first_refusal (tests s lent)
+    walk_first two e = rw (parts s lent) (e ∙ part_passed (room_tests (node_count s.tree) lent) (walk_tests s) (answered_zero _ two refl) ∙ part_passed (image_tests s) _ (answered_zero _ one refl))
+
+pub walk_alone : (s : Images) {a : Answer} → answer 0 0 ≡ first_refusal (image_tests s) → a ≡ first_refusal (walk_tests s) → a ≡ derivation s
+walk_alone s one e = walk_first s (enough s) one (room_enough s) e

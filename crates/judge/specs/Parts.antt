@@ -10,7 +10,7 @@ use Rattle.derive.specs.Images.{walk_in}
 use Rattle.judge.specs.Judged.{Entries, checked, room}
 
 -- 1 to 3
-unfoldable pub image_tests : Images → List Answer
+abbrev pub image_tests : Images → List Answer
 image_tests s =
     checked 1 (first_fault (grammar_fields s.grammar))
     ∷ checked 2 (first_fault (token_fields (terminal_count s.grammar) s.tokens))
@@ -18,9 +18,9 @@ image_tests s =
     ∷ []
 
 -- 4, for a tree of so many nodes
-unfoldable pub room_tests : ℕ → Entries → List Answer
+abbrev pub room_tests : ℕ → Entries → List Answer
 room_tests nodes lent = room (2 * nodes) lent.sets ∷ room nodes lent.indentations ∷ []
 
 -- 5 to 11
-unfoldable pub walk_tests : Images → List Answer
+abbrev pub walk_tests : Images → List Answer
 walk_tests s = walk_in s ∷ []

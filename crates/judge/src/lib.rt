@@ -74,7 +74,7 @@ impl From<derive::Refusal> for Refusal {
 }
 
 // The three images, where none of the tests 1 to 3 refuses.
-#[tactic(auto, using(fields::proofs::Promised::good_well_formed, grammar_image::proofs::Within::header_within), unfolding(crate::specs::Judged::first_refusal, crate::specs::Parts::image_tests))]
+#[tactic(auto, using(crate::proofs::Tests::formed_images), unfolding(crate::specs::Judged::first_refusal))]
 fn formed<'a>(grammar: &'a [u8], tokens: &'a [u8], tree: &'a [u8]) -> Result<Formed<'a>, Refusal>
     ensures answer { given result ≡ first_refusal (image_tests (images grammar.now tokens.now tree.now)) }
     ensures images { IfOk result (λ f. images_of f ≡ images grammar.now tokens.now tree.now) }
@@ -88,7 +88,7 @@ fn formed<'a>(grammar: &'a [u8], tokens: &'a [u8], tree: &'a [u8]) -> Result<For
 }
 
 // Whether there is room for a tree of so many nodes in lists of so many entries.
-#[tactic(auto, unfolding(crate::specs::Judged::first_refusal, crate::specs::Judged::room, crate::specs::Parts::room_tests))]
+#[tactic(auto, unfolding(crate::specs::Judged::first_refusal, crate::specs::Judged::room))]
 fn room(nodes: u16, sets: usize, indentations: usize) -> Result<(), Refusal>
     ensures { given result ≡ first_refusal (room_tests nodes (entries sets indentations)) }
 {

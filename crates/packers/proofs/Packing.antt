@@ -1,25 +1,15 @@
 -- Laws of the bytes of a list of fields, and of an output whose first fields are written.
-use Rattle.std.proofs.Common.{sym, length-drop, drop-drop, get_or-drop}
-use mathlib.Core.Path.{◌≡◌, refl, ap, ◌∙◌}
-use mathlib.Core.Bool.{Bool, true, false, ◌&&◌, cond}
-use mathlib.Core.List.{List, [], ◌∷◌, ◌++◌, map}
-use Prim.Native.Nat.{ℕ, zero, suc, ◌+◌, ◌*◌, ◌%◌, ◌/◌, ◌<◌, ◌≤◌}
-use native.Mathlib.Nat.{add-zero, zero-add, add-suc, suc-add, mod-add-div}
-use native.Mathlib.Numerals.{add-one}
-use native.Mathlib.Omega.{arith}
-use lib.Dec.{leb, eqb}
-use lib.ListN.{length, get_or, take, drop, set}
-use lib.Seq.{get_or-append-add, take-length}
-use borrow.Author.Tests.{le-leb, lt-leb, eq-eqb, ne_eqb, leb-true, eqb-true}
+use Rattle.std.proofs.Common.{◌≡◌, refl, sym, ap, ◌∙◌, Bool, true, false, true≢false, ◌&&◌, cond, List, [], ◌∷◌, ◌++◌, map, ℕ, zero, suc, ◌+◌, ◌*◌, ◌%◌, ◌/◌, ◌<◌, ◌≤◌, add-zero, zero-add, add-suc, suc-add, add-one, arith, leb, eqb, length, get_or, take, drop, set, get_or-append-add, length-drop, drop-drop, get_or-drop, le-leb, eq-eqb, ne_eqb, leb-true, eqb-true, Ok, Err, is_ok}
+use Rattle.std.proofs.Math.Nat.{mod-add-div}
+use Rattle.std.proofs.Math.Seq.{take-length}
+use Rattle.std.proofs.lemmas.Bool.{lt-leb, and_parts}
 use Rattle.rules.specs.Limits.{max_nodes, max_tokens}
 use Rattle.fields.specs.Fields.{field_at, Bytes, Field, field, WellFormed, first_fault, list_from, list}
 use Rattle.packers.specs.Packing.{bytes_of, in_turn, into_room, tree_answer, column_fields, past_columns, columns_refusal, token_answer}
-use Rattle.std.specs.Prelude.{Ok, Err}
 use Rattle.fields.specs.Fields.{Checked}
 use Rattle.packers.specs.declared.Refusal.{Refusal}
 use Rattle.packers.specs.declared.Refusal.TheVariants.{Entries, Room}
 use Rattle.packers.specs.Answers.{Packed}
-use Rattle.fields.proofs.Formed.{both_true}
 
 -- the fields of a tree image, and of a token image
 abbrev pub tree_list : List ℕ → List ℕ
@@ -197,14 +187,18 @@ image_back image n total size bytes h =
     at : (i : ℕ) → 6 + 2 * (i + 0) ≡ 2 * (i + 3)
     at i = omega arith
 
+-- what refuses gives no result
+refuses : {A E : Type 0} {e : E} {x : A} → Err e ≡ Ok x → ⊥
+refuses h = true≢false (sym (ap is_ok h))
+
 -- what is found of the columns, before the rest of the answer
 past_fault : (r : Checked) {e : Refusal} → Err e ≡ columns_refusal r → (answer : Packed) → Err e ≡ past_columns r answer
-past_fault (Ok good) h answer = absurd (let z : ◌≡◌ {A = ℕ} 0 1 = cc in omega arith)
+past_fault (Ok good) h answer = absurd (refuses h)
 past_fault (Err fault) h answer = cc
 
 pub past_good : (r : Checked) → Ok tt ≡ columns_refusal r → Ok tt ≡ r
 past_good (Ok good) h = refl
-past_good (Err fault) h = absurd (let z : ◌≡◌ {A = ℕ} 0 1 = cc in omega arith)
+past_good (Err fault) h = absurd (refuses (sym h))
 
 -- what the tree packer answers
 module _ (productions : List ℕ) (room : ℕ) where
@@ -255,18 +249,15 @@ chosen : (b : Bool) (answer refusal : Packed) (n : ℕ) → (refusal ≡ Ok n �
 chosen true answer refusal n h e = (refl, e)
 chosen false answer refusal n h e = absurd (h e)
 
-entries_refuse : (n : ℕ) → Err Entries ≡ Ok n → ⊥
-entries_refuse n e = let z : ◌≡◌ {A = ℕ} 0 1 = cc in omega arith
-
 into_room_lem : (needed room n : ℕ) → into_room needed room ≡ Ok n → (n ≡ needed) × (n ≤ room)
 into_room_lem needed room n e =
-    let h = chosen (leb needed room) (Ok needed) (Err (Room needed)) n (λ f. let z : ◌≡◌ {A = ℕ} 0 1 = cc in omega arith) e in
+    let h = chosen (leb needed room) (Ok needed) (Err (Room needed)) n refuses e in
     let same : n ≡ needed = cc in
     (same, omega (arith, leb-true needed room h.0))
 
 past_columns_lem : (r : Checked) (answer : Packed) (n : ℕ) → past_columns r answer ≡ Ok n → (Ok tt ≡ r) × (answer ≡ Ok n)
 past_columns_lem (Ok good) answer n e = (refl, e)
-past_columns_lem (Err fault) answer n e = absurd (let z : ◌≡◌ {A = ℕ} 0 1 = cc in omega arith)
+past_columns_lem (Err fault) answer n e = absurd (refuses e)
 
 -- what is known of lists that were packed as n bytes
 pub record TreeFits (productions : List ℕ) (room n : ℕ) : Type 0 where
@@ -279,8 +270,8 @@ pub tree_fits : (productions : List ℕ) (room n : ℕ) → tree_answer producti
 unfolding tree_answer
 tree_fits productions room n e =
     let count = length productions in
-    let h = chosen (leb 1 count && leb count max_nodes) (into_room (6 + 2 * count) room) (Err Entries) n (entries_refuse n) e in
-    let counts = both_true (leb 1 count) (leb count max_nodes) h.0 in
+    let h = chosen (leb 1 count && leb count max_nodes) (into_room (6 + 2 * count) room) (Err Entries) n refuses e in
+    let counts = and_parts (leb 1 count) (leb count max_nodes) h.0 in
     let sizes = into_room_lem (6 + 2 * count) room n h.1 in
     record { some = leb-true 1 count counts.0; few = leb-true count max_nodes counts.1; bytes = sizes.0; fits = sizes.1 }
 
@@ -295,8 +286,8 @@ pub tokens_fit : (terminals columns : List ℕ) (room n : ℕ) → token_answer 
 unfolding token_answer
 tokens_fit terminals columns room n e =
     let count = length terminals in
-    let h = chosen (eqb count (length columns) && leb count max_tokens) (past_columns (first_fault (column_fields columns)) (into_room (6 + 4 * count) room)) (Err Entries) n (entries_refuse n) e in
-    let counts = both_true (eqb count (length columns)) (leb count max_tokens) h.0 in
+    let h = chosen (eqb count (length columns) && leb count max_tokens) (past_columns (first_fault (column_fields columns)) (into_room (6 + 4 * count) room)) (Err Entries) n refuses e in
+    let counts = and_parts (eqb count (length columns)) (leb count max_tokens) h.0 in
     let past = past_columns_lem (first_fault (column_fields columns)) (into_room (6 + 4 * count) room) n h.1 in
     let sizes = into_room_lem (6 + 4 * count) room n past.1 in
     record { same = eqb-true count (length columns) counts.0; few = leb-true count max_tokens counts.1; low = past.0; bytes = sizes.0; fits = sizes.1 }

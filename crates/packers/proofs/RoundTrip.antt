@@ -1,12 +1,6 @@
 -- What a packer writes reads back as what was packed, and what a well-formed image holds is packed as that image again.
-use mathlib.Core.Path.{◌≡◌, refl, sym, ap, ◌∙◌}
-use mathlib.Core.List.{List, ◌++◌, map}
-use Prim.Native.Nat.{ℕ, suc, ◌+◌, ◌*◌, ◌<◌, ◌≤◌}
-use native.Mathlib.Nat.{zero-add}
-use native.Mathlib.Omega.{arith}
-use lib.ListN.{length, get_or, take, drop, length-map}
-use lib.Seq.{take_at}
-use borrow.Author.Tests.{le-leb, lt-ltb, leb-true}
+use Rattle.std.proofs.Common.{◌≡◌, refl, sym, ap, ◌∙◌, List, ◌++◌, map, ℕ, suc, ◌+◌, ◌*◌, ◌<◌, ◌≤◌, zero-add, arith, length, get_or, take, drop, take_at, le-leb, lt-ltb, leb-true, Ok}
+use Rattle.std.proofs.lemmas.List.{length-map}
 use Rattle.rules.specs.Limits.{max_nodes, max_tokens}
 use Rattle.rules.specs.Grammar.{Token}
 use Rattle.fields.specs.Fields.{field_at, Bytes, WellFormed, first_fault, list}
@@ -15,7 +9,6 @@ use Rattle.tree_image.specs.TreeImage.{node_count, node_at, nodes_of, tree_field
 use Rattle.tree_image.specs.TreeImage as tree
 use Rattle.token_image.specs.TokenImage.{token_count, token_at, tokens_of, token_fields}
 use Rattle.token_image.specs.TokenImage as token
-use Rattle.std.specs.Prelude.{Ok}
 use Rattle.packers.specs.Answers.{Packed}
 use Rattle.fields.proofs.Formed.{formed_append, formed_parts, formed_each, each_formed}
 use Rattle.fields.proofs.Promised.{good_well_formed, well_formed_good}

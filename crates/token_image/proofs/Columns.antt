@@ -1,6 +1,5 @@
 -- In a well-formed token image no column is above the limit: each token's second field keeps that rule, or says that there is no column.
-use Rattle.std.proofs.Common.{◌≡◌, refl, Bool, true, false, List, ℕ, zero, suc, ◌+◌, ◌<◌, ◌≤◌, arith, leb}
-use borrow.Author.Tests.{leb-true, eqb-true}
+use Rattle.std.proofs.Common.{◌≡◌, refl, Bool, true, false, List, ℕ, zero, suc, ◌+◌, ◌<◌, ◌≤◌, arith, leb, leb-true, eqb-true}
 use Rattle.rules.specs.Limits.{max_column, column_allowed}
 use Rattle.rules.specs.Grammar.{no_column, ColumnsUpTo}
 use Rattle.fields.specs.Fields.{WellFormed, list_from}

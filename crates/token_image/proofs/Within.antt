@@ -1,7 +1,6 @@
 -- Where the header and the tokens of a well-formed token image lie: what its readers ask for.
-use Rattle.std.proofs.Common.{List, ◌≡◌, ℕ, ◌+◌, ◌*◌, ◌<◌, ◌≤◌, arith, length}
+use Rattle.std.proofs.Common.{◌≡◌, List, ℕ, ◌+◌, ◌*◌, ◌<◌, ◌≤◌, arith, length, eqb-true}
 use Rattle.rules.specs.Limits.{max_tokens}
-use borrow.Author.Tests.{eqb-true}
 use Rattle.fields.specs.Fields.{field_at, counted_fields, first_fault, WellFormed}
 use Rattle.token_image.specs.TokenImage.{token_count, header_fields, records_fields, token_fields}
 use Rattle.fields.proofs.Formed.{formed_parts}

@@ -1,7 +1,6 @@
 -- Where the header and the nodes of a well-formed tree image lie: what its readers ask for.
-use Rattle.std.proofs.Common.{List, ◌≡◌, refl, ℕ, ◌+◌, ◌*◌, ◌<◌, ◌≤◌, arith, length}
+use Rattle.std.proofs.Common.{◌≡◌, refl, List, ℕ, ◌+◌, ◌*◌, ◌<◌, ◌≤◌, arith, length, eqb-true, ltb-true}
 use Rattle.rules.specs.Limits.{max_nodes}
-use borrow.Author.Tests.{eqb-true, ltb-true}
 use Rattle.fields.specs.Fields.{field_at, counted_fields, first_fault, WellFormed}
 use Rattle.tree_image.specs.TreeImage.{node_count, node_at, header_fields, record_fields, records_fields, tree_fields}
 use Rattle.fields.proofs.Formed.{formed_parts, each_formed}

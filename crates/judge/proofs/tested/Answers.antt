@@ -1,12 +1,11 @@
 -- One part of the tests after another.
-use Rattle.std.proofs.Common.{refl, ap, ◌∙◌, Ok, Err}
+use Rattle.std.proofs.Common.{ap, ◌∙◌, Ok, Err}
 use Rattle.fields.specs.Images.{Images}
 use Rattle.tree_image.specs.TreeImage.{node_count}
 use Rattle.derive.specs.Images.{walk_in}
 use Rattle.judge.specs.Judged.{given}
 use Rattle.fields.proofs.Searching.{handed}
-use Rattle.judge.proofs.Passed.{answered_zero}
-use Rattle.judge.proofs.Tests.{some_number, images_first, room_first, walk_first, walked}
+use Rattle.judge.proofs.Tests.{some_number, images_first, room_first, walk_first, walked, room_as}
 use Rattle.judge.proofs.tested.Goals as goal
 
 pub returns-in_err-formed-clause-answer : goal.returns-in_err-formed-clause-answer
@@ -15,19 +14,16 @@ returns-in_err-formed-clause-answer c =
 
 pub returns-in_err-room-clause-answer : goal.returns-in_err-room-clause-answer
 returns-in_err-room-clause-answer c =
-    let nodes = c.node_count.ensures ∙ ap (λ (s : Images). node_count s.tree) c.in_ok-formed.ensures.images in
     ap given (handed c.from_residual-in_err-room.ensures)
-    ∙ room_first _ _ (answered_zero _ c.in_ok-formed.ensures.answer refl) (rw nodes at c.in_err-room.ensures) (some_number _)
+    ∙ room_first _ _ c.in_ok-formed.ensures.answer (room_as _ c.node_count.ensures c.in_ok-formed.ensures.images c.in_err-room.ensures) (some_number _)
 
 pub returns-in_err-derive-clause-answer : goal.returns-in_err-derive-clause-answer
 returns-in_err-derive-clause-answer c =
-    let nodes = c.node_count.ensures ∙ ap (λ (s : Images). node_count s.tree) c.in_ok-formed.ensures.images in
     ap given (handed c.from_residual-in_err-derive.ensures)
-    ∙ walk_first _ _ (answered_zero _ c.in_ok-formed.ensures.answer refl) (answered_zero _ (rw nodes at c.in_ok-room.ensures) refl)
-    (walked _ (Err c.in_err-derive.field-0.0) (c.in_err-derive.ensures ∙ ap walk_in c.in_ok-formed.ensures.images))
+    ∙ walk_first _ _ c.in_ok-formed.ensures.answer (room_as _ c.node_count.ensures c.in_ok-formed.ensures.images c.in_ok-room.ensures)
+    (walked _ (Err c.in_err-derive.field-0.0) c.in_ok-formed.ensures.images c.in_err-derive.ensures)
 
 pub returns-clause-answer : goal.returns-clause-answer
 returns-clause-answer c =
-    let nodes = c.node_count.ensures ∙ ap (λ (s : Images). node_count s.tree) c.in_ok-formed.ensures.images in
-    walk_first _ _ (answered_zero _ c.in_ok-formed.ensures.answer refl) (answered_zero _ (rw nodes at c.in_ok-room.ensures) refl)
-    (walked _ (Ok tt) (c.in_ok-derive.ensures ∙ ap walk_in c.in_ok-formed.ensures.images))
+    walk_first _ _ c.in_ok-formed.ensures.answer (room_as _ c.node_count.ensures c.in_ok-formed.ensures.images c.in_ok-room.ensures)
+    (walked _ (Ok tt) c.in_ok-formed.ensures.images c.in_ok-derive.ensures)

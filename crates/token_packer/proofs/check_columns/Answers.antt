@@ -1,6 +1,6 @@
 -- Each turn takes a column off what is left to be searched.
 use Rattle.std.proofs.Common.{◌∙◌, length, refl, sym, ap, arith}
-use native.Mathlib.Nat.{sub-zero}
+use Rattle.std.proofs.Math.Nat.{sub-zero}
 use Rattle.fields.specs.Fields.{first_fault}
 use Rattle.packers.specs.Packing.{column_fields, columns_refusal}
 use Rattle.fields.proofs.Searching.{pass, fail, done, each_first, each_none}
