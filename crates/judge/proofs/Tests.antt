@@ -1,12 +1,8 @@
 -- The tests in the order of the table: the first that refuses gives the refusal, whatever comes after it.
-use Rattle.std.proofs.Common.{◌≡◌, refl, sym, ap, ◌∙◌, Bool, true, false, cond, List, [], ◌∷◌, ◌++◌, ℕ, ◌*◌, ◌<◌, ◌≤◌, arith, eqb, lt-ltb, le-ltb, eq-eqb, Ok, Err, Result}
+use Rattle.std.proofs.Common.{◌≡◌, refl, sym, ap, ◌∙◌, Bool, true, false, cond, List, [], ◌∷◌, ◌++◌, ℕ, ◌*◌, ◌≤◌, arith, eqb, le-ltb, eq-eqb, Ok, Err, Result}
 use Rattle.fields.specs.Images.{Images}
 use Rattle.rules.specs.Walk.{Answer, answer}
-use Rattle.fields.specs.declared.Fault.{Fault}
-use Rattle.fields.specs.Fields.{first_fault}
-use Rattle.grammar_image.specs.GrammarImage.{terminal_count, production_count, grammar_fields}
-use Rattle.token_image.specs.TokenImage.{token_fields}
-use Rattle.tree_image.specs.TreeImage.{node_count, tree_fields}
+use Rattle.tree_image.specs.TreeImage.{node_count}
 use Rattle.derive.specs.declared.Refusal.{Refusal}
 use Rattle.derive.specs.declared.Refusal.TheVariants.{WrongNode, NodesEnd, WrongToken, TokensEnd, TooDeep, NodesRemain, TokensRemain}
 use Rattle.derive.specs.Answers.{refusal_answer, derivation_answer}
@@ -17,7 +13,6 @@ use Rattle.judge.specs.declared.Refusal.{Refusal as CheckRefusal}
 use Rattle.judge.specs.Refusals.{refusal_answer as check_answer}
 use Rattle.judge.specs.declared.Refusal.TheVariants.{Grammar, Tokens, Tree, Room, Derivation, Empty}
 use Rattle.judge.specs.Parts.{image_tests, room_tests, walk_tests}
-use Rattle.images.specs.Formed.{Formed}
 use Rattle.fields.proofs.Promised.{good_well_formed}
 use Rattle.judge.proofs.Passed.{answered_zero, first_passed}
 

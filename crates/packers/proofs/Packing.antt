@@ -1,13 +1,12 @@
 -- Laws of the bytes of a list of fields, and of an output whose first fields are written.
-use Rattle.std.proofs.Common.{◌≡◌, refl, sym, ap, ◌∙◌, Bool, true, false, true≢false, ◌&&◌, cond, List, [], ◌∷◌, ◌++◌, map, ℕ, zero, suc, ◌+◌, ◌*◌, ◌%◌, ◌/◌, ◌<◌, ◌≤◌, add-zero, zero-add, add-suc, suc-add, add-one, arith, leb, eqb, length, get_or, take, drop, set, get_or-append-add, length-drop, drop-drop, get_or-drop, le-leb, eq-eqb, ne_eqb, leb-true, eqb-true, Ok, Err, is_ok}
+use Rattle.std.proofs.Common.{◌≡◌, refl, sym, ap, ◌∙◌, Bool, true, false, true≢false, ◌&&◌, cond, List, [], ◌∷◌, ◌++◌, map, ℕ, zero, suc, ◌+◌, ◌*◌, ◌%◌, ◌/◌, ◌<◌, ◌≤◌, add-zero, zero-add, add-suc, suc-add, add-one, arith, leb, eqb, length, get_or, take, drop, set, get_or-append-add, length-drop, drop-drop, get_or-drop, le-leb, eq-eqb, leb-true, eqb-true, Ok, Err, is_ok}
 use Rattle.std.proofs.Math.Nat.{mod-add-div}
 use Rattle.std.proofs.Math.Seq.{take-length}
-use Rattle.std.proofs.lemmas.Bool.{lt-leb, and_parts}
+use Rattle.std.proofs.lemmas.Bool.{and_parts}
 use Rattle.rules.specs.Limits.{max_nodes, max_tokens}
 use Rattle.fields.specs.Fields.{field_at, Bytes, Field, field, WellFormed, first_fault, list_from, list}
-use Rattle.packers.specs.Packing.{bytes_of, in_turn, into_room, tree_answer, column_fields, past_columns, columns_refusal, token_answer}
+use Rattle.packers.specs.Packing.{bytes_of, in_turn, into_room, tree_answer, column_fields, past_columns, token_answer}
 use Rattle.fields.specs.Fields.{Checked}
-use Rattle.packers.specs.declared.Refusal.{Refusal}
 use Rattle.packers.specs.declared.Refusal.TheVariants.{Entries, Room}
 use Rattle.packers.specs.Answers.{Packed}
 
@@ -191,58 +190,18 @@ image_back image n total size bytes h =
 refuses : {A E : Type 0} {e : E} {x : A} → Err e ≡ Ok x → ⊥
 refuses h = true≢false (sym (ap is_ok h))
 
--- what is found of the columns, before the rest of the answer
-past_fault : (r : Checked) {e : Refusal} → Err e ≡ columns_refusal r → (answer : Packed) → Err e ≡ past_columns r answer
-past_fault (Ok good) h answer = absurd (refuses h)
-past_fault (Err fault) h answer = cc
+-- what the packers answer where there is room
+pub tree_written : (productions : List ℕ) (room : ℕ) → 1 ≤ length productions → length productions ≤ max_nodes →
+    6 + 2 * length productions ≤ room → Ok (6 + 2 * length productions) ≡ tree_answer productions room
+unfolding tree_answer
+tree_written productions room some few h =
+    rw (le-leb 1 (length productions) some, le-leb (length productions) max_nodes few, le-leb (6 + 2 * length productions) room h)
 
-pub past_good : (r : Checked) → Ok tt ≡ columns_refusal r → Ok tt ≡ r
-past_good (Ok good) h = refl
-past_good (Err fault) h = absurd (refuses (sym h))
-
--- what the tree packer answers
-module _ (productions : List ℕ) (room : ℕ) where
-  pub tree_few : length productions < 1 → Err Entries ≡ tree_answer productions room
-  unfolding tree_answer
-  tree_few h = rw (lt-leb 1 (length productions) h)
-
-  pub tree_many : 1 ≤ length productions → max_nodes < length productions → Err Entries ≡ tree_answer productions room
-  unfolding tree_answer
-  tree_many g h = rw (le-leb 1 (length productions) g, lt-leb (length productions) max_nodes h)
-
-  module _ (some : 1 ≤ length productions) (fits : length productions ≤ max_nodes) where
-    pub tree_fitted : {needed : ℕ} → needed ≡ 6 + 2 * length productions → into_room needed room ≡ tree_answer productions room
-    unfolding tree_answer
-    tree_fitted size = rw (size, le-leb 1 (length productions) some, le-leb (length productions) max_nodes fits)
-
-    pub tree_written : 6 + 2 * length productions ≤ room → Ok (6 + 2 * length productions) ≡ tree_answer productions room
-    tree_written h = rw (le-leb (6 + 2 * length productions) room h) at (tree_fitted refl)
-
--- what the token packer answers
-module _ (terminals columns : List ℕ) (room : ℕ) where
-  pub tokens_unequal : (length terminals ≡ length columns → ⊥) → Err Entries ≡ token_answer terminals columns room
-  unfolding token_answer
-  tokens_unequal h = rw (ne_eqb (length terminals) (length columns) h)
-
-  module _ (same : length terminals ≡ length columns) where
-    pub tokens_many : max_tokens < length terminals → Err Entries ≡ token_answer terminals columns room
-    unfolding token_answer
-    tokens_many h = rw (eq-eqb (length terminals) (length columns) same, lt-leb (length terminals) max_tokens h)
-
-    module _ (fits : length terminals ≤ max_tokens) where
-      columns_next : {r : Checked} → r ≡ first_fault (column_fields columns) → past_columns r (into_room (6 + 4 * length terminals) room) ≡ token_answer terminals columns room
-      unfolding token_answer
-      columns_next e = rw (eq-eqb (length terminals) (length columns) same, le-leb (length terminals) max_tokens fits, ← e)
-
-      pub tokens_column : {e : Refusal} → Err e ≡ columns_refusal (first_fault (column_fields columns)) → Err e ≡ token_answer terminals columns room
-      tokens_column h = past_fault (first_fault (column_fields columns)) h (into_room (6 + 4 * length terminals) room) ∙ columns_next refl
-
-      module _ (low : Ok tt ≡ first_fault (column_fields columns)) where
-        pub tokens_fitted : {needed : ℕ} → needed ≡ 6 + 4 * length terminals → into_room needed room ≡ token_answer terminals columns room
-        tokens_fitted size = rw size (columns_next low)
-
-        pub tokens_written : 6 + 4 * length terminals ≤ room → Ok (6 + 4 * length terminals) ≡ token_answer terminals columns room
-        tokens_written h = rw (le-leb (6 + 4 * length terminals) room h) at (tokens_fitted refl)
+pub tokens_written : (terminals columns : List ℕ) (room : ℕ) → length terminals ≡ length columns → length terminals ≤ max_tokens →
+    Ok tt ≡ first_fault (column_fields columns) → 6 + 4 * length terminals ≤ room → Ok (6 + 4 * length terminals) ≡ token_answer terminals columns room
+unfolding token_answer
+tokens_written terminals columns room same few low h =
+    rw (eq-eqb (length terminals) (length columns) same, le-leb (length terminals) max_tokens few, ← low, le-leb (6 + 4 * length terminals) room h)
 
 -- the packers' answers, read backwards
 chosen : (b : Bool) (answer refusal : Packed) (n : ℕ) → (refusal ≡ Ok n → ⊥) → cond b answer refusal ≡ Ok n → (b ≡ true) × (answer ≡ Ok n)
