@@ -1,8 +1,5 @@
 -- One part of the tests after another.
 use Rattle.std.proofs.Common.{ap, ◌∙◌, Ok, Err}
-use Rattle.fields.specs.Images.{Images}
-use Rattle.tree_image.specs.TreeImage.{node_count}
-use Rattle.derive.specs.Images.{walk_in}
 use Rattle.judge.specs.Judged.{given}
 use Rattle.fields.proofs.Searching.{handed}
 use Rattle.judge.proofs.Tests.{some_number, images_first, room_first, walk_first, walked, room_as}
