@@ -16,7 +16,7 @@ use rules::{ENTRIES, NONTERMINALS, PRODUCTIONS, ROW, TERMINALS};
 use std::ops::Range;
 
 // The header of a grammar image.
-#[derive(Clone, Copy)]
+#[derive(Clone, Copy, Debug, PartialEq, Eq)]
 pub struct Counts {
     pub terminals: u16,
     pub nonterminals: u16,
@@ -26,7 +26,7 @@ pub struct Counts {
 }
 
 // A production: its left side, and its row as the number of its first symbol entry and a count.
-#[derive(Clone, Copy)]
+#[derive(Clone, Copy, Debug, PartialEq, Eq)]
 pub struct Production {
     pub left: u16,
     pub first: u16,
@@ -35,7 +35,7 @@ pub struct Production {
 
 // A symbol of a row. Kind and relation are the bytes of its entry, since `symbol_at` reads any image and
 // promises what stands there.
-#[derive(Clone, Copy)]
+#[derive(Clone, Copy, Debug, PartialEq, Eq)]
 pub struct Symbol {
     pub kind: u8,
     pub relation: u8,

@@ -32,7 +32,7 @@ fn token_answer(terminals: &[u16], columns: &[u16], room: usize) -> Result<u16, 
     if count != columns.len() {
         return Err(Refusal::Entries);
     }
-    if count > TOKENS as usize {
+    if count > usize::from(TOKENS) {
         return Err(Refusal::Entries);
     }
     check_columns(columns)?;

@@ -17,7 +17,7 @@ fn tree_answer(productions: &[u16], room: usize) -> Result<u16, Refusal>
     if count < 1 {
         return Err(Refusal::Entries);
     }
-    if count > NODES as usize {
+    if count > usize::from(NODES) {
         return Err(Refusal::Entries);
     }
     into_room(6 + 2 * count, room)
