@@ -38,7 +38,7 @@ fn node(formed: &Formed, sets: &mut [u32], next: Next) -> Next
     requires room { 2 * node_count formed.now.nodes.tree.now ≤ length sets.old }
     ensures { NodeSet (images_of formed.now) next sets.old sets.new result }
 {
-    let production = formed.nodes.production_of(next.node());
+    let production = formed.nodes.production_of(next.node);
     row(formed, sets, production.entries(), next)
 }
 
@@ -61,12 +61,12 @@ fn row(formed: &Formed, sets: &mut [u32], entries: Range<u32>, parent: Next) -> 
         let symbol = formed.nodes.symbol_at(y);
         match symbol.kind() {
             Kind::Terminal => {
-                let token = formed.token_at(next.token());
+                let token = formed.token_at(next.token);
                 left = meet(left, token_leaves(symbol.relation, token.column));
                 next = next.past_token();
             }
             Kind::Nonterminal => {
-                let child = next.node();
+                let child = next.node;
                 if formed.nodes.is_empty(child) {
                     store(sets, child, all());
                     left = meet(left, child_leaves(symbol.relation, all()));
@@ -78,6 +78,6 @@ fn row(formed: &Formed, sets: &mut [u32], entries: Range<u32>, parent: Next) -> 
             }
         }
     }
-    store(sets, parent.node(), left);
+    store(sets, parent.node, left);
     next
 }

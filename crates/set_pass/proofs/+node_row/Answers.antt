@@ -1,5 +1,5 @@
 -- A row's loop: what is due is read, and what it leaves is met before the rest of the row.
-use Rattle.std.proofs.Common.{refl, sym, ap, ◌∙◌, ℕ, ◌<◌, ◌≤◌, ◌*◌, [], ◌∷◌, length, arith, eqb-true}
+use Rattle.std.proofs.Common.{refl, sym, ap, ◌∙◌, ℕ, ◌<◌, ◌≤◌, ◌*◌, length, arith, eqb-true}
 use Rattle.rules.specs.Stored.{unbounded}
 use Rattle.rules.specs.Interval.{meet, child_leaves}
 use Rattle.grammar_image.specs.GrammarImage.{count_of}
@@ -7,7 +7,6 @@ use Rattle.token_image.specs.TokenImage.{token_count}
 use Rattle.tree_image.specs.TreeImage.{node_count, node_at}
 use Rattle.images.specs.Held.{images_of}
 use Rattle.layout.specs.Standing.{SomeTree}
-use Rattle.layout.specs.Written.{written_at}
 use Rattle.images.proofs.Within.{nodes_fit, tokens_fit}
 use Rattle.layout.proofs.Rows.{node_listed, row_of}
 use Rattle.set_pass.specs.Next.{next_node, next_token}
@@ -21,13 +20,13 @@ node-production_of-production-requires t c = omega (arith, node_listed _ _ c.req
 pub node-row-requires : goal.node-row-requires
 node-row-requires t c =
     let read = c.production_of-production.ensures in
-    let row = row_of _ _ (rw c.node.ensures at read.production) c.entries.ensures.start c.entries.ensures.end in
+    let row = row_of _ _ read.production c.entries.ensures.start c.entries.ensures.end in
     let there = node_listed _ _ c.requires.stands.stands in
     (omega arith, (omega (arith, read.row, c.entries.ensures.end), (there, (row_behind _ row c.requires.stands, c.requires.room))))
 
 pub node-returns : goal.node-returns
 node-returns t c =
-    node_passed _ (row_of _ _ (rw c.node.ensures at c.production_of-production.ensures.production) c.entries.ensures.start c.entries.ensures.end) c.row.ensures
+    node_passed _ (row_of _ _ c.production_of-production.ensures.production c.entries.ensures.start c.entries.ensures.end) c.row.ensures
 
 pub row-past_node-next-requires : goal.row-past_node-next-requires
 row-past_node-next-requires t c = omega (arith, nodes_fit _ _ c.args.formed.now.formed.nodes_formed)
@@ -68,7 +67,7 @@ row-loop-y-preserved-in-Terminal t c =
     let terminal = c.in-Terminal.ensures in
     let inv = c.loop-y.invariant in
     let past = c.past_token-next.ensures in
-    let token = rw c.token.ensures at c.token_at-token.ensures in
+    let token = c.token_at-token.ensures in
     let leaves = c.meet-left.ensures ∙ ap (meet _) c.token_leaves.ensures in
     record {
       behind = omega arith;
@@ -108,12 +107,10 @@ row-loop-y-preserved-then-is_empty t c =
     let nonterminal = c.in-Nonterminal.ensures in
     let inv = c.loop-y.invariant in
     let past = c.past_node-next-then-is_empty.ensures in
-    let number = c.node-child.ensures in
     let here = node_here t (goal.at.row-loop-y-preserved-then-is_empty t c).In-Nonterminal in
     let room : 2 * node_count s.tree ≤ length c.loop-y.sets = omega arith in
-    let none = rw number at (eqb-true (count_of s.grammar (node_at s.tree c.node-child.result)) 0 (sym c.is_empty.ensures ∙ c.if-is_empty.true)) in
-    let all = c.all.result in
-    let passed = empty_passed s _ _ _ none past.0 past.1 c.all.ensures (omega arith) (c.store.ensures ∙ ap (λ (n : ℕ). written_at (2 * n) (all.low ∷ all.high ∷ []) c.loop-y.sets) number) in
+    let none = eqb-true (count_of s.grammar (node_at s.tree c.loop-y.next.node)) 0 (sym c.is_empty.ensures ∙ c.if-is_empty.true) in
+    let passed = empty_passed s _ _ _ none past.0 past.1 c.all.ensures (omega arith) c.store.ensures in
     let leaves = c.meet-left-then-is_empty.ensures ∙ ap (meet _) (c.child_leaves.ensures ∙ ap (child_leaves unbounded _) c.all-then-is_empty.ensures) in
     record {
       behind = omega arith;
@@ -141,10 +138,9 @@ row-loop-y-preserved t c =
     let nonterminal = c.in-Nonterminal.ensures in
     let inv = c.loop-y.invariant in
     let passed = c.node-next.ensures in
-    let number = c.node-child.ensures in
     let here = node_here t (goal.at.row-loop-y-preserved t c).In-Nonterminal in
     let room : 2 * node_count s.tree ≤ length c.loop-y.sets = omega arith in
-    let below = child_set s (omega arith) (rw number at c.set_at.ensures.low) (rw number at c.set_at.ensures.high) passed in
+    let below = child_set s (omega arith) c.set_at.ensures.low c.set_at.ensures.high passed in
     let leaves = c.meet-left-else-is_empty.ensures ∙ ap (meet _) c.child_leaves-else-is_empty.ensures in
     record {
       behind = omega (arith, next_behind s steps symbol nonterminal passed inv.stands);
@@ -157,4 +153,4 @@ pub row-returns : goal.row-returns
 row-returns t c =
     let none : c.loop-y.y-iterator.end ≤ c.loop-y.y-iterator.start = omega (arith, c.in-None.ensures.steps) in
     row_stored _ refl (omega arith) (c.loop-y.invariant.gives _ _ _ (row_end_passed _ _ none refl refl))
-    (rw c.node.ensures at c.store-2.ensures)
+    c.store-2.ensures
