@@ -72,15 +72,24 @@ impl Counts {
     }
 }
 
-impl Symbol {
+impl Kind {
     // 0 is a terminal, and any other kind a nonterminal: a well-formed image has no other than 1.
-    pub fn kind(self) -> Kind
-        ensures { result ≡ kind_of self.kind }
+    fn of(number: u8) -> Kind
+        ensures { result ≡ kind_of number }
     {
-        match self.kind {
+        match number {
             0 => Kind::Terminal,
             _ => Kind::Nonterminal,
         }
+    }
+}
+
+impl Symbol {
+    // What stands at it, by its kind.
+    pub fn kind(self) -> Kind
+        ensures { result ≡ kind_of self.kind }
+    {
+        Kind::of(self.kind)
     }
 }
 
@@ -234,12 +243,12 @@ impl Records<'_> {
         requires starts { (starts ≡ starts_at self.now.header.image.now p) × (starts ≤ max_entries) }
         ensures { result ≡ (get_or (production_fields self.now.header.image.now p) f nowhere).keeps }
     {
-        let production = production_at(self.header.image, p);
         let counts = self.header.counts;
+        let value = field_at(self.header.image, 16 + 6 * usize::from(p) + 2 * f as usize);
         match f {
-            0 => production.left < counts.nonterminals,
-            1 => production.first == starts,
-            _ => production.count <= ROW && starts + production.count <= counts.entries,
+            0 => value < counts.nonterminals,
+            1 => value == starts,
+            _ => value <= ROW && starts + value <= counts.entries,
         }
     }
 
@@ -257,7 +266,7 @@ impl Records<'_> {
                         break 'search 16 + 6 * u32::from(p) + 2 * f;
                     }
                 }
-                starts += production_at(self.header.image, p).count;
+                starts += field_at(self.header.image, 16 + 6 * usize::from(p) + 4);
             }
             if starts != counts.entries {
                 break 'search 8;
@@ -273,11 +282,12 @@ impl Records<'_> {
         requires field { f < 3 }
         ensures { result ≡ (get_or (symbol_fields self.now.header.image.now y) f nowhere).keeps }
     {
-        let symbol = symbol_at(self.header.image, u32::from(y));
+        let Header { image, counts, .. } = self.header;
+        let at = self.header.entry_byte(y) as usize;
         match f {
-            0 => symbol.kind <= 1,
-            1 => symbol.relation <= 3,
-            _ => symbol.number < self.header.counts.of(symbol.kind()),
+            0 => byte_at(image, at) <= 1,
+            1 => byte_at(image, at + 1) <= 3,
+            _ => field_at(image, at + 2) < counts.of(Kind::of(byte_at(image, at))),
         }
     }
 

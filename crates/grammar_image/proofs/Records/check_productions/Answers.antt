@@ -53,10 +53,11 @@ loop-f-preserved c =
 pub loop-p-preserved : goal.loop-p-preserved
 loop-p-preserved c =
     let image = c.args.self.now.header.image.now in
-    let within = c.loop-f.invariant.1 (omega arith) in (
+    let within = c.loop-f.invariant.1 (omega arith) in
+    let count = rw c.from-in-loop-p.ensures at c.field_at-starts.ensures in (
       turned (production_fields image) c.args.self.now.header.counts.productions 3 (three image) c.loop-p.p c.loop-f.f c.loop-f-test.false c.loop-f.invariant.0,
-      omega (arith, starts_next image c.loop-p.p),
-      omega arith,
+      omega (arith, starts_next image c.loop-p.p, count),
+      omega (arith, count),
     )
 
 pub returns-in-search : goal.returns-in-search
