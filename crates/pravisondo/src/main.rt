@@ -4,6 +4,7 @@
 mod input;
 
 use delivery::{check_delivery, tree_in};
+use input::Failed;
 use report::report;
 use tree_image::node_count;
 
@@ -23,11 +24,11 @@ const TEXT: usize = 344106;
 fn answer(rt: &(impl Print + Eprint), delivery: &[u8]) {
     let mut sets = [0u32; SETS];
     let mut indentations = [0u32; INDENTATIONS];
+    let mut text = [0u8; TEXT];
     let (number, place, nodes) = match check_delivery(delivery, &mut sets, &mut indentations) {
         Ok(()) => (0, 0, usize::from(node_count(tree_in(delivery)))),
         Err(refusal) => (refusal.number(), refusal.place(), 0),
     };
-    let mut text = [0u8; TEXT];
     let length = report(number, place, nodes, &sets, &indentations, &mut text);
     if rt.write_all(&text[..length]).is_err() {
         complain(rt, "pravisondo: standard output cannot be written");
@@ -43,6 +44,6 @@ fn main(rt: HostRuntime) {
     let mut bytes = [0u8; DELIVERY];
     match input::read(&mut rt.stdin(), &mut bytes) {
         Ok(n) => answer(&rt, &bytes[..n]),
-        Err(_) => complain(&rt, "pravisondo: standard input cannot be read"),
+        Err(Failed) => complain(&rt, "pravisondo: standard input cannot be read"),
     }
 }

@@ -1,5 +1,5 @@
 -- Laws of a text put into an output: two runs of bytes one behind the other are one run.
-use Rattle.std.proofs.Common.{◌≡◌, refl, sym, ap, ◌∙◌, ℕ, zero, suc, ◌+◌, ◌≤◌, List, [], ◌∷◌, ◌++◌, length, drop, set, append_assoc, append-nil, add-zero, zero-add, suc-add, add_assoc, add-one, arith}
+use Rattle.std.proofs.Common.{◌≡◌, refl, sym, ap, ◌∙◌, ℕ, zero, suc, ◌+◌, ◌<◌, ◌≤◌, List, [], ◌∷◌, ◌++◌, length, drop, set, append_assoc, append-nil, add-zero, zero-add, suc-add, add_assoc, add-one, arith}
 use Rattle.std.proofs.Common.{length-append, take-append-drop, drop_of_length-le, take_all, drop-drop}
 use Rattle.std.proofs.Math.Seq.{take-append_seam, drop-append-add, set_split}
 use Rattle.report.specs.declared.text.Text.{Text}
@@ -15,15 +15,20 @@ puts_none text =
       same = refl;
     }
 
+-- one byte written at an index
+pub written_one : (at byte : ℕ) (old : List ℕ) → at < length old → set old at byte ≡ written_at at (byte ∷ []) old
+unfolding written_at
+written_one at byte old h = rw (set_split old at byte h, add-one)
+
 -- one byte put
 pub puts_one : {byte : ℕ} {old after : Text} → 1 ≤ room old → after.at ≡ old.at + 1 → after.out.now ≡ set old.out.now old.at byte →
     after.out.ghost_name ≡ old.out.ghost_name → Puts (byte ∷ []) old after
-unfolding written_at
 puts_one {byte} {old} h next output same =
-    record { next = next; output = output ∙ rw (set_split old.out.now old.at byte (omega arith), add-one); same = same }
+    record { next = next; output = output ∙ written_one old.at byte old.out.now (omega arith); same = same }
 
 module _ (v w : List ℕ) where
-  written_then : (at : ℕ) (old : List ℕ) → written_at (at + length v) w (written_at at v old) ≡ written_at at (v ++ w) old
+  -- a run of bytes behind another
+  pub written_then : (at : ℕ) (old : List ℕ) → written_at (at + length v) w (written_at at v old) ≡ written_at at (v ++ w) old
   unfolding written_at
   written_then zero old =
       simp (zero-add, length-append) (rw (take-append_seam v (drop (length v) old), drop-append-add v (drop (length v) old) (length w), drop-drop (length w) (length v) old, append_assoc))

@@ -1,6 +1,6 @@
 // A text put into an output, part behind part.
 ghost use Rattle.std.specs.Prelude.{◌≡◌, [], ◌∷◌, ◌++◌, ◌+◌, ◌*◌, ◌≤◌, length};
-ghost use Rattle.report.specs.Putting.{room, Puts};
+ghost use Rattle.report.specs.Putting.{room, written_at, Puts};
 ghost use Rattle.report.specs.Text.{decimal, upper, spaced, line, lines};
 
 use rules::relation::UNBOUNDED;
@@ -23,16 +23,20 @@ impl<'a> Text<'a> {
         self.at += 1;
     }
 
-    // The digits of a number.
-    fn digits(&mut self, n: u64)
-        requires { length (decimal n) ≤ room self.old }
-        ensures put { Puts (decimal n) self.old self.new }
-        ensures left { room self.old ≡ length (decimal n) + room self.new }
+    // Puts the digits of a number into an output from an index on, and gives the index behind them. It calls itself,
+    // and hands on the index as a number, which stands in a register.
+    fn digits(out: &mut [u8], at: usize, n: u64) -> usize
+        requires { at + length (decimal n) ≤ length out.old }
+        ensures put { out.new ≡ written_at at (decimal n) out.old }
+        ensures behind { result ≡ at + length (decimal n) }
     {
-        if n >= 10 {
-            self.digits(n / 10);
+        if n < 10 {
+            out[at] = b'0' + n as u8;
+            return at + 1;
         }
-        self.byte(b'0' + (n % 10) as u8);
+        let last = Text::digits(out, at, n / 10);
+        out[last] = b'0' + (n % 10) as u8;
+        last + 1
     }
 
     // A number, and the byte behind it.
@@ -41,7 +45,7 @@ impl<'a> Text<'a> {
         ensures put { Puts (decimal n ++ (behind ∷ [])) self.old self.new }
         ensures left { room self.old ≤ 21 + room self.new }
     {
-        self.digits(n);
+        self.at = Text::digits(self.out, self.at, n);
         self.byte(behind);
     }
 

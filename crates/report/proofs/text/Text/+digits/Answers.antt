@@ -1,27 +1,36 @@
--- The last digit is put behind those of the tenth part.
-use Rattle.std.proofs.Common.{arith}
-use Rattle.report.proofs.Putting.{puts_then}
+-- The last digit is written behind those of the tenth part.
+use Rattle.std.proofs.Common.{rules, ◌∙◌, [], ◌∷◌, ◌+◌, ◌/◌, ◌%◌, ◌<◌, length, arith, mod-eq_of_lt}
+use Rattle.report.specs.Text.{decimal}
+use Rattle.report.proofs.Putting.{written_one, written_then}
 use Rattle.report.proofs.Decimal.{decimal_one, decimal_more, length_one, length_more}
 use Rattle.report.proofs.text.Text.+digits.Goals as goal
-use Rattle.report.proofs.text.Text.+digits.Goals.{then-n-ge10, else-n-ge10}
 
-pub digits-requires : goal.digits-requires
-digits-requires t c = (omega arith, omega (arith, length_more _ c.if-n-ge10.true c.ranges.n.fits))
+pub bounds-out-at : goal.bounds-out-at
+bounds-out-at t c = omega (arith, c.requires, length_one _ c.if-n-lt10.true)
 
-pub byte-requires : goal.byte-requires
-byte-requires t c = elim c.if-n-ge10.branch [
-  | then-n-ge10 w ↦ rw w.self-is (omega (arith, w.digits.ensures.left, length_more _ w.if-n-ge10.true c.ranges.n.fits))
-  | else-n-ge10 w ↦ rw w.self-is (omega (arith, length_one _ w.if-n-ge10.false))
-]
+pub returns-then-n-lt10-clause-put : goal.returns-then-n-lt10-clause-put
+returns-then-n-lt10-clause-put t c =
+    rw (decimal_one _ c.if-n-lt10.true, mod-eq_of_lt c.if-n-lt10.true) (written_one _ _ _ (omega (arith, c.requires, length_one _ c.if-n-lt10.true)))
+
+pub returns-then-n-lt10-clause-behind : goal.returns-then-n-lt10-clause-behind
+returns-then-n-lt10-clause-behind t c = omega (arith, length_one _ c.if-n-lt10.true)
+
+pub digits-last-requires : goal.digits-last-requires
+digits-last-requires t c = (omega arith, omega (arith, c.requires, length_more _ c.if-n-lt10.false c.ranges.n.fits))
+
+pub bounds-out-last : goal.bounds-out-last
+bounds-out-last t c =
+    omega (arith, c.requires, c.digits-last.auto.out, c.digits-last.ensures.behind, length_more _ c.if-n-lt10.false c.ranges.n.fits)
+
+pub overflow_add-result-2 : goal.overflow_add-result-2
+overflow_add-result-2 t c =
+    let within : c.digits-last.result < length c.digits-last.new.out = bounds-out-last t c in
+    search (rules, within)
 
 pub returns-clause-put : goal.returns-clause-put
-returns-clause-put t c = elim c.if-n-ge10.branch [
-  | then-n-ge10 w ↦ rw (decimal_more _ w.if-n-ge10.true c.ranges.n.fits) (puts_then (rw (← w.self-is) at w.digits.ensures.put) c.byte.ensures.put)
-  | else-n-ge10 w ↦ rw (decimal_one _ w.if-n-ge10.false, ← w.self-is) c.byte.ensures.put
-]
+returns-clause-put t c =
+    rw (decimal_more _ c.if-n-lt10.false c.ranges.n.fits)
+    (written_one _ _ _ (bounds-out-last t c) ∙ rw (c.digits-last.ensures.behind, c.digits-last.ensures.put) (written_then (decimal (c.args.n / 10)) ((48 + c.args.n % 10) ∷ []) c.args.at c.args.out.now))
 
-pub returns-clause-left : goal.returns-clause-left
-returns-clause-left t c = elim c.if-n-ge10.branch [
-  | then-n-ge10 w ↦ omega (arith, rw (← w.self-is) at w.digits.ensures.left, c.byte.ensures.left, length_more _ w.if-n-ge10.true c.ranges.n.fits)
-  | else-n-ge10 w ↦ omega (arith, rw w.self-is at c.byte.ensures.left, length_one _ w.if-n-ge10.false)
-]
+pub returns-clause-behind : goal.returns-clause-behind
+returns-clause-behind t c = omega (arith, c.digits-last.ensures.behind, length_more _ c.if-n-lt10.false c.ranges.n.fits)
