@@ -5,6 +5,7 @@ use Rattle.std.proofs.iter.Yields.{nat_range_steps}
 use Rattle.rules.specs.Grammar.{Symbol, Token}
 use Rattle.rules.specs.Tree.{Tree, Row}
 use Rattle.rules.specs.Derivation.{nodes, tokens}
+use Rattle.fields.specs.Fields.{field_at, Bytes}
 use Rattle.grammar_image.specs.GrammarImage.{first_of, count_of, symbol_at, production_at, ProductionIs, SymbolIs}
 use Rattle.grammar_image.specs.Kinds.{kind_of}
 use Rattle.grammar_image.specs.declared.Kind.TheVariants.{Terminal, Nonterminal}
@@ -23,6 +24,11 @@ row_at grammar entries = symbols grammar entries.start entries.end
 -- no symbol is left
 pub row_none : (grammar : List ℕ) (entries : Range ℕ) → entries.end ≤ entries.start → row_at grammar entries ≡ []
 row_none grammar = listed_over (symbol_at grammar)
+
+-- a count of an image fits 16 bits
+pub count_fits : (image : List ℕ) → Bytes image → field_at image 0 < 65536
+unfolding field_at
+count_fits image bytes = omega (arith, bytes 0, bytes 1)
 
 module _ (grammar tree : List ℕ) where
   -- where a tree stands, its node is one of the tree image

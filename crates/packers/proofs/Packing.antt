@@ -2,7 +2,7 @@
 use Rattle.std.proofs.Common.{◌≡◌, refl, sym, ap, ◌∙◌, Bool, true, false, true≢false, ◌&&◌, cond, List, [], ◌∷◌, ◌++◌, map, ℕ, zero, suc, ◌+◌, ◌*◌, ◌%◌, ◌/◌, ◌<◌, ◌≤◌, add-zero, zero-add, add-suc, suc-add, add-one, arith, leb, eqb, length, get_or, take, drop, set, get_or-append-add, length-drop, drop-drop, get_or-drop, le-leb, eq-eqb, leb-true, eqb-true, Ok, Err, is_ok}
 use Rattle.std.proofs.Math.Nat.{mod-add-div}
 use Rattle.std.proofs.Math.Seq.{take-length}
-use Rattle.std.proofs.lemmas.Bool.{and_parts}
+use Rattle.std.proofs.lemmas.Bool.{lt-leb, and_parts}
 use Rattle.rules.specs.Limits.{max_nodes, max_tokens}
 use Rattle.fields.specs.Fields.{field_at, Bytes, Field, field, WellFormed, first_fault, list_from, list}
 use Rattle.packers.specs.Packing.{bytes_of, in_turn, into_room, tree_answer, column_fields, past_columns, token_answer}
@@ -202,6 +202,19 @@ pub tokens_written : (terminals columns : List ℕ) (room : ℕ) → length term
 unfolding token_answer
 tokens_written terminals columns room same few low h =
     rw (eq-eqb (length terminals) (length columns) same, le-leb (length terminals) max_tokens few, ← low, le-leb (6 + 4 * length terminals) room h)
+
+-- what they answer where there is too little
+pub tree_room : (productions : List ℕ) (room : ℕ) → 1 ≤ length productions → length productions ≤ max_nodes →
+    room < 6 + 2 * length productions → Err (Room (6 + 2 * length productions)) ≡ tree_answer productions room
+unfolding tree_answer
+tree_room productions room some few h =
+    rw (le-leb 1 (length productions) some, le-leb (length productions) max_nodes few, lt-leb (6 + 2 * length productions) room h)
+
+pub tokens_room : (terminals columns : List ℕ) (room : ℕ) → length terminals ≡ length columns → length terminals ≤ max_tokens →
+    Ok tt ≡ first_fault (column_fields columns) → room < 6 + 4 * length terminals → Err (Room (6 + 4 * length terminals)) ≡ token_answer terminals columns room
+unfolding token_answer
+tokens_room terminals columns room same few low h =
+    rw (eq-eqb (length terminals) (length columns) same, le-leb (length terminals) max_tokens few, ← low, lt-leb (6 + 4 * length terminals) room h)
 
 -- the packers' answers, read backwards
 chosen : (b : Bool) (answer refusal : Packed) (n : ℕ) → (refusal ≡ Ok n → ⊥) → cond b answer refusal ≡ Ok n → (b ≡ true) × (answer ≡ Ok n)

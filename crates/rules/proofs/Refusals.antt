@@ -19,6 +19,10 @@ module _ (G : ℕ → Production) (start : ℕ) (ns : List ℕ) (ts : List Token
   pub answers : ((walk G ns ts start).number ≡ 0) ⊎ ((5 ≤ (walk G ns ts start).number) × ((walk G ns ts start).number ≤ 11))
   answers = meant.known
 
+  -- 0 has the place 0
+  pub zero_place : (walk G ns ts start).number ≡ 0 → (walk G ns ts start).place ≡ 0
+  zero_place e = (told e).0
+
   -- 0: the nodes derive the tokens by a tree within the limit
   pub derived : (walk G ns ts start).number ≡ 0 → DerivesWithin max_depth G start ns ts
   derived e = (told e).1
